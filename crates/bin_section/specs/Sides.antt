@@ -1,0 +1,29 @@
+-- Sides and volume.
+use Prim.Native.Nat.{ℕ, _*_, _≤_}
+use mathlib.Core.Bool.{Bool, _&&_}
+use lib.Dec.{ltb, leb}
+use Rattle.bin_section.specs.declared.width_height_depth.WidthHeightDepth.{WidthHeightDepth}
+use Rattle.bin_section.specs.declared.rect_to_insert.RectToInsert.{RectToInsert}
+
+abbrev pub sides : ℕ → ℕ → ℕ → WidthHeightDepth
+sides w h d = record { width = w; height = h; depth = d }
+
+abbrev pub rectangle : ℕ → ℕ → ℕ → RectToInsert
+rectangle w h d = record { whd = sides w h d }
+
+-- "volume is width x height x depth in 64 bits"
+abbrev pub volumeOf : WidthHeightDepth → ℕ
+volumeOf s = s .width * s .height * s .depth
+
+-- "Sides 1 to 65,535."
+unfoldable pub sideOk : ℕ → Bool
+sideOk side = ltb 0 side && leb side 65535
+
+abbrev pub sidesOk : WidthHeightDepth → Bool
+sidesOk s = sideOk (s .width) && (sideOk (s .height) && sideOk (s .depth))
+
+-- no side is above 65,535
+pub record Small (s : WidthHeightDepth) : Type 0 where
+  pub width-small : s .width ≤ 65535
+  pub height-small : s .height ≤ 65535
+  pub depth-small : s .depth ≤ 65535

@@ -1,0 +1,4 @@
+pub mod Flags
+pub mod Lowests
+pub mod Sums
+pub mod Tabs

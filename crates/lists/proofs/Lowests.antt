@@ -1,0 +1,116 @@
+-- Laws of `lowest` and `anyBelow`: the start, a turn and the end of a loop that counts up, and what they mean.
+use mathlib.Core.Path.{_≡_, refl, sym, ap, _∙_}
+use mathlib.Core.Logic.{_⊎_, inl, inr}
+use mathlib.Core.Bool.{Bool, true, false, _||_, cond}
+use Prim.Native.Nat.{ℕ, zero, suc, _+_, _≤_, _<_}
+use native.Mathlib.Nat.{eq-or-lt-of-le, le-of-suc-le-suc, not-suc-le-zero, le-step, lt-suc-self}
+use native.Mathlib.Decide.{decLt}
+use native.Mathlib.Numerals.{add-one}
+use native.Mathlib.Omega.{arith}
+use Rattle.lists.specs.Lowest.{lowest, anyBelow}
+use Rattle.lists.proofs.Flags.{true-false, cond-yes, cond-no, or-none, or-first, or-second}
+
+-- the test fires at no number below n
+pub record None (n : ℕ) (f : ℕ → Bool) : Type 0 where
+  pub at : (i : ℕ) → i < n → f i ≡ false
+
+pub none-zero : (f : ℕ → Bool) → None 0 f
+none-zero f = record { at = λ i h. absurd (not-suc-le-zero h) }
+
+pub none-more : (n : ℕ) (f : ℕ → Bool) → None n f → f n ≡ false → None (n + 1) f
+none-more n f p e = record { at = λ i h. go i (eq-or-lt-of-le (le-of-suc-le-suc (rw add-one at h))) }
+  where
+    go : (i : ℕ) → (i ≡ n) ⊎ (i < n) → f i ≡ false
+    go i (inl q) = ap f q ∙ e
+    go i (inr l) = p .at i l
+
+pub none-less : (m n : ℕ) (f : ℕ → Bool) → None n f → m ≤ n → None m f
+none-less m n f p h = record { at = λ i l. p .at i (omega arith) }
+
+-- ---- the lowest
+
+pub lowest-most : (n : ℕ) (f : ℕ → Bool) → lowest n f ≤ n
+unfolding lowest
+lowest-most zero f = omega arith
+lowest-most (suc n) f = go (f 0) (lowest-most n (λ k. f (suc k)))
+  where
+    go : (t : Bool) → lowest n (λ k. f (suc k)) ≤ n → cond t 0 (suc (lowest n (λ k. f (suc k)))) ≤ suc n
+    go true l = omega arith
+    go false l = omega arith
+
+pub lowest-none : (n : ℕ) (f : ℕ → Bool) → None n f → lowest n f ≡ n
+unfolding lowest
+lowest-none zero f p = refl
+lowest-none (suc n) f p =
+    cond-no 0 (suc (lowest n (λ k. f (suc k)))) (f 0) (p .at 0 (omega arith))
+    ∙ ap suc (lowest-none n (λ k. f (suc k)) (record { at = λ i h. p .at (suc i) (omega arith) }))
+
+pub lowest-here : (n r : ℕ) (f : ℕ → Bool) → None r f → r < n → f r ≡ true → lowest n f ≡ r
+unfolding lowest
+lowest-here zero r f p h e = absurd (not-suc-le-zero h)
+lowest-here (suc n) zero f p h e = cond-yes 0 (suc (lowest n (λ k. f (suc k)))) (f 0) e
+lowest-here (suc n) (suc r) f p h e =
+    cond-no 0 (suc (lowest n (λ k. f (suc k)))) (f 0) (p .at 0 (omega arith))
+    ∙ ap suc (lowest-here n r (λ k. f (suc k)) (record { at = λ i l. p .at (suc i) (omega arith) }) (le-of-suc-le-suc h) e)
+
+-- where a loop that counts up to n ends
+pub lowest-end : (n i : ℕ) (f : ℕ → Bool) → None i f → n ≤ i → lowest n f ≡ n
+lowest-end n i f p h = lowest-none n f (none-less n i f p h)
+
+-- what the lowest means: no number below it fires, and it fires itself where it is below n
+pub none-below-lowest : (n : ℕ) (f : ℕ → Bool) → None (lowest n f) f
+unfolding lowest
+none-below-lowest zero f = none-zero f
+none-below-lowest (suc n) f = go (none-below-lowest n (λ k. f (suc k))) (f 0) refl
+  where
+    at : None (lowest n (λ k. f (suc k))) (λ k. f (suc k)) → (i : ℕ) → f 0 ≡ false → i < suc (lowest n (λ k. f (suc k))) → f i ≡ false
+    at rest zero z h = z
+    at rest (suc i) z h = rest .at i (le-of-suc-le-suc h)
+
+    go : None (lowest n (λ k. f (suc k))) (λ k. f (suc k)) → (t : Bool) → f 0 ≡ t → None (cond t 0 (suc (lowest n (λ k. f (suc k))))) f
+    go rest true e = none-zero f
+    go rest false e = record { at = λ i h. at rest i e h }
+
+pub lowest-fires : (n : ℕ) (f : ℕ → Bool) → lowest n f < n → f (lowest n f) ≡ true
+unfolding lowest
+lowest-fires zero f h = absurd (not-suc-le-zero h)
+lowest-fires (suc n) f h = go (lowest-fires n (λ k. f (suc k))) (f 0) refl h
+  where
+    go : (lowest n (λ k. f (suc k)) < n → f (suc (lowest n (λ k. f (suc k)))) ≡ true) → (t : Bool) → f 0 ≡ t → cond t 0 (suc (lowest n (λ k. f (suc k)))) < suc n → f (cond t 0 (suc (lowest n (λ k. f (suc k))))) ≡ true
+    go rest true e l = e
+    go rest false e l = rest (le-of-suc-le-suc l)
+
+pub none-of-lowest : (n : ℕ) (f : ℕ → Bool) → n ≤ lowest n f → None n f
+none-of-lowest n f h = none-less n (lowest n f) f (none-below-lowest n f) h
+
+-- ---- whether any fires
+
+pub any-more : (n : ℕ) (f : ℕ → Bool) → anyBelow (n + 1) f ≡ (anyBelow n f || f n)
+unfolding anyBelow
+any-more n f = ap (λ (m : ℕ). anyBelow m f) (add-one n)
+
+pub any-none : (n : ℕ) (f : ℕ → Bool) → anyBelow n f ≡ false → None n f
+unfolding anyBelow
+any-none zero f e = none-zero f
+any-none (suc n) f e =
+    rw (← add-one n) (none-more n f (any-none n f (or-first (anyBelow n f) (f n) e)) (or-second (anyBelow n f) (f n) e))
+
+pub none-any : (n : ℕ) (f : ℕ → Bool) → None n f → anyBelow n f ≡ false
+unfolding anyBelow
+none-any zero f p = refl
+none-any (suc n) f p =
+    or-none (anyBelow n f) (f n) (none-any n f (none-less n (suc n) f p (omega arith))) (p .at n (lt-suc-self n))
+
+pub any-some : (n : ℕ) (f : ℕ → Bool) → anyBelow n f ≡ true → (i : ℕ) × (i < n) × (f i ≡ true)
+unfolding anyBelow
+any-some zero f e = absurd (true-false (sym e))
+any-some (suc n) f e = go (any-some n f) (anyBelow n f) refl e
+  where
+    go :
+        (anyBelow n f ≡ true → (i : ℕ) × (i < n) × (f i ≡ true))
+        → (b : Bool)
+        → anyBelow n f ≡ b
+        → (b || f n) ≡ true
+        → (i : ℕ) × (i < suc n) × (f i ≡ true)
+    go rest true p e = let r = rest p in (r .0, le-step (r .1), r .2)
+    go rest false p e = (n, lt-suc-self n, e)

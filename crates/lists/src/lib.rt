@@ -1,0 +1,1 @@
+// Definitions and laws on lists and sums that several floors cite. No code stands here.
