@@ -1,0 +1,83 @@
+-- Laws of a try: which case each row of checks leads to, and what a section and a rectangle that pass them have.
+use Prim.Native.Nat.{ℕ, _≤_, _<_, _+_}
+use mathlib.Core.Path.{_≡_, refl}
+use mathlib.Core.Bool.{Bool, true, false, _&&_}
+use native.Mathlib.Omega.{arith}
+use borrow.Author.Tests.{lt-ltb, le-ltb, leb-true}
+use lib.Dec.{leb}
+use Rattle.lists.proofs.Flags.{and-first, and-second}
+use Rattle.bin_section.specs.declared.rect_to_insert.RectToInsert.{RectToInsert}
+use Rattle.bin_section.specs.declared.section.BinSection.{BinSection}
+use Rattle.try_place.specs.declared.Placement.the-variants.{
+  BadSection,
+  BadRectangle,
+  PlacementWiderThanBinSection,
+  PlacementTallerThanBinSection,
+  PlacementDeeperThanBinSection,
+}
+use Rattle.bin_section.specs.Sides.{sideOk, sidesOk}
+use Rattle.try_place.specs.Splits.{Fitting, sixSplits}
+use Rattle.try_place.specs.Choice.{SmallSplits}
+use Rattle.try_place.specs.Try.{spanOk, sectionOk, Reachable, refusedOf, placedOf, fitOf, tryOf}
+
+span-end : (o s : ℕ) → spanOk o s ≡ true → o + s ≤ 65535
+unfolding spanOk
+span-end o s h = leb-true _ _ (and-second (sideOk s) (leb (o + s) 65535) h)
+
+pub small-splits : (s : BinSection) (r : RectToInsert) → Fitting s r → SmallSplits (sixSplits s r)
+unfolding sixSplits
+small-splits s r h =
+    record {
+      at0 = omega arith;
+      at1 = omega arith;
+      at2 = omega arith;
+      at3 = omega arith;
+      at4 = omega arith;
+      at5 = omega arith;
+    }
+
+pub reachable : (s : BinSection) → sectionOk s ≡ true → Reachable s
+reachable s a =
+    let ox = spanOk (s .x) (s .whd .width) in
+    let oy = spanOk (s .y) (s .whd .height) in
+    let oz = spanOk (s .z) (s .whd .depth) in
+    let yz = and-second ox (oy && oz) a in
+    record {
+      x-end = span-end _ _ (and-first ox (oy && oz) a);
+      y-end = span-end _ _ (and-first oy oz yz);
+      z-end = span-end _ _ (and-second oy oz yz);
+    }
+
+module _ (s : BinSection) (r : RectToInsert) where
+  -- the checks 3 and 4
+  pub try-section : sectionOk s ≡ false → refusedOf BadSection ≡ tryOf s r
+  unfolding tryOf
+  try-section a = rw a
+
+  module _ (a : sectionOk s ≡ true) where
+    pub try-rectangle : sidesOk (r .whd) ≡ false → refusedOf BadRectangle ≡ tryOf s r
+    unfolding tryOf
+    try-rectangle b = rw (a, b)
+
+    pub try-fit : sidesOk (r .whd) ≡ true → fitOf s r ≡ tryOf s r
+    unfolding tryOf
+    try-fit b = rw (a, b)
+
+  -- 12, 13, 14
+  pub fit-wider : s .whd .width < r .whd .width → refusedOf PlacementWiderThanBinSection ≡ fitOf s r
+  unfolding fitOf
+  fit-wider w = rw (lt-ltb _ _ w)
+
+  module _ (w : r .whd .width ≤ s .whd .width) where
+    pub fit-taller : s .whd .height < r .whd .height → refusedOf PlacementTallerThanBinSection ≡ fitOf s r
+    unfolding fitOf
+    fit-taller h = rw (le-ltb _ _ w, lt-ltb _ _ h)
+
+    module _ (h : r .whd .height ≤ s .whd .height) where
+      pub fit-deeper : s .whd .depth < r .whd .depth → refusedOf PlacementDeeperThanBinSection ≡ fitOf s r
+      unfolding fitOf
+      fit-deeper d = rw (le-ltb _ _ w, le-ltb _ _ h, lt-ltb _ _ d)
+
+      pub fit-placed : r .whd .depth ≤ s .whd .depth → placedOf s r ≡ fitOf s r
+      unfolding fitOf
+      fit-placed d = rw (le-ltb _ _ w, le-ltb _ _ h, le-ltb _ _ d)

@@ -1,0 +1,81 @@
+-- Try one placement: its checks in their order, and what it answers.
+use Prim.Native.Nat.{ℕ, _+_, _≤_}
+use mathlib.Core.List.{List, [], _∷_}
+use mathlib.Core.Bool.{Bool, _&&_, not, cond}
+use lib.Dec.{ltb, leb}
+use lib.ListN.{getD}
+use Rattle.try_place.specs.declared.packed_location.PackedLocation.{PackedLocation}
+use Rattle.bin_section.specs.declared.rect_to_insert.RectToInsert.{RectToInsert}
+use Rattle.bin_section.specs.declared.section.BinSection.{BinSection}
+use Rattle.try_place.specs.declared.Tried.{Tried}
+use Rattle.try_place.specs.declared.Placement.{Placement}
+use Rattle.try_place.specs.declared.Placement.the-variants.{
+  Placed,
+  BadSection,
+  BadRectangle,
+  PlacementWiderThanBinSection,
+  PlacementTallerThanBinSection,
+  PlacementDeeperThanBinSection,
+}
+use Rattle.bin_section.specs.Sides.{sides, sideOk, sidesOk}
+use Rattle.bin_section.specs.Section.{zeroSection}
+use Rattle.try_place.specs.Splits.{sixSplits}
+use Rattle.try_place.specs.Choice.{chosen}
+
+-- "zero side, side above 65,535, or origin plus side above 65,535": none of these. The sum is one of whole numbers.
+unfoldable pub spanOk : ℕ → ℕ → Bool
+spanOk origin side = sideOk side && leb (origin + side) 65535
+
+abbrev pub sectionOk : BinSection → Bool
+sectionOk s = spanOk (s .x) (s .whd .width) && (spanOk (s .y) (s .whd .height) && spanOk (s .z) (s .whd .depth))
+
+-- "a refused try returns a zero location and zero sections"
+abbrev pub refusedOf : Placement → Tried
+refusedOf a = record { answer = a; sections = zeroSection ∷ zeroSection ∷ zeroSection ∷ [] }
+
+-- "Try returns the location and the chosen three in the order right, above, behind."
+abbrev pub placedOf : BinSection → RectToInsert → Tried
+placedOf s r =
+    record {
+      answer = Placed (record { x = s .x; y = s .y; z = s .z; whd = r .whd });
+      sections = getD (sixSplits s r) (chosen (sixSplits s r)) [];
+    }
+
+-- 12, 13, 14: "wider, taller, deeper than the section"; else it is placed
+unfoldable pub fitOf : BinSection → RectToInsert → Tried
+fitOf s r =
+    cond (ltb (s .whd .width) (r .whd .width)) (refusedOf PlacementWiderThanBinSection)
+    (cond (ltb (s .whd .height) (r .whd .height)) (refusedOf PlacementTallerThanBinSection)
+    (cond (ltb (s .whd .depth) (r .whd .depth)) (refusedOf PlacementDeeperThanBinSection) (placedOf s r)))
+
+-- "Try: 3 (..), 4, 12, 13, 14."
+unfoldable pub tryOf : BinSection → RectToInsert → Tried
+tryOf s r =
+    cond (not (sectionOk s)) (refusedOf BadSection) (cond (not (sidesOk (r .whd))) (refusedOf BadRectangle) (fitOf s r))
+
+-- the number of each answer; the detail of a try is 0
+abbrev pub numberOf : Placement → ℕ
+numberOf (Placed l) = 0
+numberOf BadSection = 3
+numberOf BadRectangle = 4
+numberOf PlacementWiderThanBinSection = 12
+numberOf PlacementTallerThanBinSection = 13
+numberOf PlacementDeeperThanBinSection = 14
+
+abbrev pub zeroLocation : PackedLocation
+zeroLocation = record { x = 0; y = 0; z = 0; whd = sides 0 0 0 }
+
+-- the location of each answer
+abbrev pub locationOf : Placement → PackedLocation
+locationOf (Placed l) = l
+locationOf BadSection = zeroLocation
+locationOf BadRectangle = zeroLocation
+locationOf PlacementWiderThanBinSection = zeroLocation
+locationOf PlacementTallerThanBinSection = zeroLocation
+locationOf PlacementDeeperThanBinSection = zeroLocation
+
+-- what the code may lean on: the section ends at 65,535 at most
+pub record Reachable (s : BinSection) : Type 0 where
+  pub x-end : s .x + s .whd .width ≤ 65535
+  pub y-end : s .y + s .whd .height ≤ 65535
+  pub z-end : s .z + s .whd .depth ≤ 65535

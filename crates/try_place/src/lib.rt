@@ -1,0 +1,140 @@
+// Try one placement: a rectangle in the corner of a section, and what remains.
+ghost use mathlib.Core.Path.{_≡_};
+ghost use Rattle.try_place.specs.Splits.{Fitting};
+ghost use Rattle.try_place.specs.Try.{spanOk, sectionOk, Reachable, refusedOf, placedOf, fitOf, tryOf, numberOf, locationOf};
+ghost use Rattle.bin_section.specs.Replies.{reply};
+
+mod choice;
+mod packed_location;
+mod splits;
+
+use bin_section::BinSection;
+use bin_section::RectToInsert;
+use bin_section::Reply;
+use bin_section::WidthHeightDepth;
+use bin_section::side_ok;
+use choice::choose;
+pub use packed_location::PackedLocation;
+use splits::six_splits;
+
+// The answer to a try. The last three are the Rust's BinSectionError.
+pub enum Placement {
+    Placed(PackedLocation),
+    BadSection,
+    BadRectangle,
+    PlacementWiderThanBinSection,
+    PlacementTallerThanBinSection,
+    PlacementDeeperThanBinSection,
+}
+
+// The answer with the three sections beside it, right, above, behind. A refusal has three zero sections.
+pub struct Tried {
+    pub answer: Placement,
+    pub sections: [BinSection; 3],
+}
+
+impl Placement {
+    fn number(self) -> u32
+        ensures { λ n. ⌜ n ≡ numberOf self ⌝ }
+    {
+        match self {
+            Placement::Placed(_) => 0,
+            Placement::BadSection => 3,
+            Placement::BadRectangle => 4,
+            Placement::PlacementWiderThanBinSection => 12,
+            Placement::PlacementTallerThanBinSection => 13,
+            Placement::PlacementDeeperThanBinSection => 14,
+        }
+    }
+
+    // "A detail that isn't named is 0."
+    pub fn reply(self) -> Reply
+        ensures { λ r. ⌜ r ≡ reply (numberOf self) 0 ⌝ }
+    {
+        Reply::new(self.number(), 0)
+    }
+
+    // The location, zero where the try is refused.
+    pub fn location(self) -> PackedLocation
+        ensures { λ l. ⌜ l ≡ locationOf self ⌝ }
+    {
+        let Placement::Placed(location) = self else {
+            return PackedLocation {
+                x: 0,
+                y: 0,
+                z: 0,
+                whd: WidthHeightDepth::new(0, 0, 0),
+            };
+        };
+        location
+    }
+}
+
+fn refused(answer: Placement) -> Tried
+    ensures { λ t. ⌜ t ≡ refusedOf answer ⌝ }
+{
+    let zero = BinSection::zero();
+    let sections = [zero, zero, zero];
+    Tried { answer, sections }
+}
+
+// The rectangle in the section's corner, and the chosen three.
+fn place(section: BinSection, incoming: RectToInsert) -> Tried
+    requires { ⌜ Fitting section incoming ⌝ }
+    ensures { λ t. ⌜ t ≡ placedOf section incoming ⌝ }
+{
+    let splits = six_splits(section, incoming);
+    let k = choose(splits);
+    let sections = splits[k];
+    let whd = incoming.whd;
+    let answer = Placement::Placed(PackedLocation {
+        x: section.x,
+        y: section.y,
+        z: section.z,
+        whd,
+    });
+    Tried { answer, sections }
+}
+
+// The Rust's try_place, for a section that reaches 65,535 at most.
+pub fn try_place(section: BinSection, incoming: RectToInsert) -> Tried
+    requires { ⌜ Reachable section ⌝ }
+    ensures { λ t. ⌜ t ≡ fitOf section incoming ⌝ }
+{
+    if section.whd.width < incoming.whd.width {
+        return refused(Placement::PlacementWiderThanBinSection);
+    }
+    if section.whd.height < incoming.whd.height {
+        return refused(Placement::PlacementTallerThanBinSection);
+    }
+    if section.whd.depth < incoming.whd.depth {
+        return refused(Placement::PlacementDeeperThanBinSection);
+    }
+    place(section, incoming)
+}
+
+fn in_range(s: BinSection) -> bool
+    ensures { λ b. ⌜ b ≡ sectionOk s ⌝ }
+{
+    span_ok(s.x, s.whd.width) & (span_ok(s.y, s.whd.height) & span_ok(s.z, s.whd.depth))
+}
+
+// Whether a side is 1 to 65,535 and ends at 65,535 at most. The sum is made in 64 bits: in 32 it could wrap.
+fn span_ok(origin: u32, side: u32) -> bool
+    ensures { λ b. ⌜ b ≡ spanOk origin side ⌝ }
+{
+    side_ok(side) & ((origin as u64) + (side as u64) <= WidthHeightDepth::MOST_SIDE as u64)
+}
+
+// Try one placement, for any section and any rectangle.
+pub fn try_placement(section: BinSection, rectangle: RectToInsert) -> Tried
+    ensures { λ t. ⌜ t ≡ tryOf section rectangle ⌝ }
+{
+    if !in_range(section) {
+        return refused(Placement::BadSection);
+    }
+    if !rectangle.whd.in_range() {
+        return refused(Placement::BadRectangle);
+    }
+    try_place(section, rectangle)
+}

@@ -1,0 +1,9 @@
+// Where a rectangle was placed. No rotation is recorded.
+use bin_section::WidthHeightDepth;
+
+pub struct PackedLocation {
+    pub x: u32,
+    pub y: u32,
+    pub z: u32,
+    pub whd: WidthHeightDepth,
+}
