@@ -1,3 +1,4 @@
+pub mod Fills
 pub mod Flags
 pub mod Lowests
 pub mod Sums
