@@ -1,0 +1,39 @@
+-- A job of any kind, and what the rules answer to it. Each job's code is proved equal to the same definitions.
+use Prim.Native.Nat.{ℕ, _+_}
+use mathlib.Core.List.{List, [], _∷_, map}
+use mathlib.Core.Bool.{cond}
+use lib.Dec.{eqb}
+use Rattle.bin_section.specs.declared.section.BinSection.{BinSection}
+use Rattle.bin_section.specs.declared.rect_to_insert.RectToInsert.{RectToInsert}
+use Rattle.bin_section.specs.Sides.{volumeOf}
+use Rattle.try_place.specs.Splits.{sixSplits}
+use Rattle.try_place.specs.Choice.{chosen}
+use Rattle.try_place.specs.Try.{tryOf, numberOf}
+use Rattle.try_place.specs.Appended.{appendedOf}
+
+pub data Job : Type 0 where
+  tries : BinSection → RectToInsert → Job
+
+-- what an example says. A field that an example does not speak of is 0 or empty.
+pub record Outcome : Type 0 where
+  pub reply : ℕ
+  pub detail : ℕ
+  -- of a try that is placed: the chosen split, from 1, the volumes right, above and behind, and what would be appended
+  pub split : ℕ
+  pub volumes : List ℕ
+  pub appended : List BinSection
+
+unfoldable pub tried : BinSection → RectToInsert → Outcome
+tried s r =
+    let t = tryOf s r in
+    let n = numberOf (t .answer) in
+    record {
+      reply = n;
+      detail = 0;
+      split = cond (eqb n 0) (chosen (sixSplits s r) + 1) 0;
+      volumes = cond (eqb n 0) (map (λ (b : BinSection). volumeOf (b .whd)) (t .sections)) [];
+      appended = appendedOf (t .sections);
+    }
+
+unfoldable pub answered : Job → Outcome
+answered (tries s r) = tried s r

@@ -1,0 +1,1 @@
+// The worked examples of the scope: one table under one statement. No code stands here.
