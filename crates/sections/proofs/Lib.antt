@@ -1,0 +1,4 @@
+pub mod Chunks
+pub mod Reading
+pub mod Moves
+pub mod Bounding

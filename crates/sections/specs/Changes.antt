@@ -1,0 +1,24 @@
+-- What a removal and an append leave of a list of words of which the first count sections are in use.
+use Prim.Native.Nat.{ℕ, _+_, _*_, _-_, _≤_, _<_}
+use mathlib.Core.Path.{_≡_}
+use mathlib.Core.List.{List, [], _∷_, _++_}
+use Rattle.lists.specs.Tab.{removeAt, put}
+use Rattle.bin_section.specs.declared.section.BinSection.{BinSection}
+use Rattle.bin_section.specs.Section.{sectionAt, wordsOf, zeroSection}
+use Rattle.sections.specs.Sections.{sections}
+
+-- "is removed, later ones move down one": the freed last one is six zeros, and what stands past the count is as it was
+pub record Removed (count i : ℕ) (w w′ : List ℕ) : Type 0 where
+  pub free : sections w′ (count - 1) ≡ removeAt i (sections w count)
+  pub freed : sectionAt w′ (count - 1) ≡ zeroSection
+  pub past : (k : ℕ) → count ≤ k → sectionAt w′ k ≡ sectionAt w k
+
+-- "appended": the section stands after the first count, and no other word changes
+pub record Appended (count : ℕ) (s : BinSection) (w w′ : List ℕ) : Type 0 where
+  pub free : sections w′ (count + 1) ≡ sections w count ++ (s ∷ [])
+  pub words : w′ ≡ put w (count * 6) (wordsOf s)
+  pub past : (k : ℕ) → count < k → sectionAt w′ k ≡ sectionAt w k
+
+-- "words past each count are 0"
+pub record ZeroPast (count : ℕ) (w : List ℕ) : Type 0 where
+  pub zeros : (k : ℕ) → count ≤ k → sectionAt w k ≡ zeroSection

@@ -1,0 +1,3 @@
+pub mod Sections
+pub mod Inside
+pub mod Changes

@@ -1,0 +1,29 @@
+// The free sections of a chamber: the first count of a list of sections.
+ghost use mathlib.Core.Path.{_≡_};
+ghost use Prim.Native.Nat.{_+_, _*_, _≤_, _<_};
+ghost use lib.ListN.{length};
+ghost use Rattle.sections.specs.Changes.{Removed, Appended};
+use bin_section::BinSection;
+
+// Takes the section at i out of the first count: later ones move down one, and the freed last becomes six zeros.
+pub fn remove_section(words: &mut [u32], count: usize, i: usize)
+    requires { ⌜ (count * 6 ≤ length (now words)) × (i < count) ⌝ }
+    ensures { λ _. ⌜ Removed count i (now (words .entry)) (now (words .exit)) ⌝ }
+{
+    let last = count - 1;
+    let mut k = i;
+    while k < last {
+        let section = BinSection::read(words, k + 1);
+        section.write(words, k);
+        k += 1;
+    }
+    BinSection::zero().write(words, last);
+}
+
+// Puts a section after the first count.
+pub fn append_section(words: &mut [u32], count: usize, section: BinSection)
+    requires { ⌜ count * 6 + 6 ≤ length (now words) ⌝ }
+    ensures { λ _. ⌜ Appended count section (now (words .entry)) (now (words .exit)) ⌝ }
+{
+    section.write(words, count);
+}
