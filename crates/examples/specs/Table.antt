@@ -8,7 +8,8 @@ use Rattle.bin_section.specs.Section.{section}
 use Rattle.try_place.specs.Splits.{sixSplits}
 use Rattle.try_place.specs.Choice.{chosen, ranksOf, bestOf, bestFrom, laterOf, betterOf}
 use Rattle.try_place.specs.Try.{spanOk, fitOf, tryOf}
-use Rattle.try_place.specs.Appended.{putIn, unlessZero, appendedFrom}
+use Rattle.lists.specs.Sort.{insertBy, insertAll}
+use Rattle.try_place.specs.Appended.{larger, keptOne, kept, appendedOf}
 use Rattle.examples.specs.Job.{Job, tries, Outcome, tried, answered}
 
 pub record Example : Type 0 where
@@ -50,5 +51,5 @@ table =
     ∷ []
 
 pub examples-hold : map (λ (e : Example). answered (e .job)) table ≡ map (λ (e : Example). e .outcome) table
-unfolding table answered tried tryOf fitOf spanOk sideOk sixSplits chosen ranksOf bestOf bestFrom laterOf betterOf appendedFrom unlessZero putIn
+unfolding table answered tried tryOf fitOf spanOk sideOk sixSplits chosen ranksOf bestOf bestFrom laterOf betterOf appendedOf larger keptOne kept insertBy insertAll
 examples-hold = refl

@@ -1,3 +1,4 @@
 pub mod Lowest
+pub mod Sort
 pub mod Sum
 pub mod Tab

@@ -1,3 +1,4 @@
 pub mod Choosing
 pub mod Meaning
 pub mod Trying
+pub mod Remaining

@@ -74,6 +74,15 @@ locationOf PlacementWiderThanBinSection = zeroLocation
 locationOf PlacementTallerThanBinSection = zeroLocation
 locationOf PlacementDeeperThanBinSection = zeroLocation
 
+-- "an enum whose refusal is taken apart early": what follows where the answer is a location, and what else
+abbrev pub onPlaced : {A : Type 0} → Placement → (PackedLocation → A) → A → A
+onPlaced (Placed l) then′ else′ = then′ l
+onPlaced BadSection then′ else′ = else′
+onPlaced BadRectangle then′ else′ = else′
+onPlaced PlacementWiderThanBinSection then′ else′ = else′
+onPlaced PlacementTallerThanBinSection then′ else′ = else′
+onPlaced PlacementDeeperThanBinSection then′ else′ = else′
+
 -- what the code may lean on: the section ends at 65,535 at most
 pub record Reachable (s : BinSection) : Type 0 where
   pub x-end : s .x + s .whd .width ≤ 65535

@@ -1,0 +1,4 @@
+pub mod Adding
+pub mod Finding
+pub mod Reaches
+pub mod Placed

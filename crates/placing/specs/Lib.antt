@@ -1,0 +1,3 @@
+pub mod Added
+pub mod Rules
+pub mod Place

@@ -1,0 +1,30 @@
+-- What the code leaves of the words when it places one rectangle.
+use Prim.Native.Nat.{ℕ, _+_, _≤_, _<_}
+use mathlib.Core.Path.{_≡_}
+use mathlib.Core.List.{List}
+use Rattle.bin_section.specs.declared.section.BinSection.{BinSection}
+use Rattle.bin_section.specs.declared.rect_to_insert.RectToInsert.{RectToInsert}
+use Rattle.bin_section.specs.Section.{sectionAt}
+use Rattle.sections.specs.Sections.{sections}
+use Rattle.sections.specs.Changes.{ZeroPast}
+use Rattle.try_place.specs.Try.{Reachable}
+use Rattle.placing.specs.declared.place.Placed.{Placed}
+use Rattle.placing.specs.declared.place.Spot.{Spot}
+use Rattle.placing.specs.declared.place.Spot.the-variants.{At, Nowhere}
+use Rattle.placing.specs.Rules.{One, nowhere, placed, placeOne}
+
+-- each counted section ends at 65,535 at most
+pub record Reaching (count : ℕ) (w : List ℕ) : Type 0 where
+  pub at : (i : ℕ) → i < count → Reachable (sectionAt w i)
+
+-- what the code's answer says, with the sections that it leaves
+abbrev pub oneOf : Spot → List BinSection → One
+oneOf (At l) free = placed l free
+oneOf Nowhere free = nowhere
+
+-- one more than before is the most that stays: at most two sections more; where none fits, no word changes
+pub record PlacedIn (count : ℕ) (r : RectToInsert) (p : Placed) (w w′ : List ℕ) : Type 0 where
+  pub answer : oneOf (p .spot) (sections w′ (p .count)) ≡ placeOne (sections w count) r
+  pub room : p .count ≤ count + 2
+  pub zeros : ZeroPast count w → ZeroPast (p .count) w′
+  pub reaching : Reaching (p .count) w′

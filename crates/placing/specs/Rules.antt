@@ -1,0 +1,48 @@
+-- "Packing", for one rectangle and for the rectangles of one group in one chamber.
+use Prim.Native.Nat.{ℕ, zero, suc}
+use mathlib.Core.List.{List, [], _∷_, _++_}
+use lib.ListN.{length, getD}
+use Rattle.lists.specs.Tab.{removeAt}
+use Rattle.bin_section.specs.declared.section.BinSection.{BinSection}
+use Rattle.bin_section.specs.declared.rect_to_insert.RectToInsert.{RectToInsert}
+use Rattle.bin_section.specs.Section.{zeroSection}
+use Rattle.try_place.specs.declared.packed_location.PackedLocation.{PackedLocation}
+use Rattle.try_place.specs.Try.{fitOf, onPlaced}
+use Rattle.try_place.specs.Appended.{appendedOf}
+
+-- one rectangle: no free section fits it, or where it goes and what is free afterwards
+pub data One : Type 0 where
+  nowhere : One
+  placed : PackedLocation → List BinSection → One
+
+-- "the free sections are tried from the last to the first, the first that fits is removed, later ones move down one, and the chosen
+-- three are appended": here the first n sections are left to be tried
+unfoldable pub placeFrom : List BinSection → RectToInsert → ℕ → One
+placeFrom free r zero = nowhere
+placeFrom free r (suc n) =
+    let t = fitOf (getD free n zeroSection) r in
+    onPlaced (t .answer) (λ l. placed l (removeAt n free ++ appendedOf (t .sections))) (placeFrom free r n)
+
+unfoldable pub placeOne : List BinSection → RectToInsert → One
+placeOne free r = placeFrom free r (length free)
+
+-- the rectangles of a group: one of them stops the trial, or the whole group goes in, each at its location
+pub data Trial : Type 0 where
+  stops : Trial
+  whole : List PackedLocation → List BinSection → Trial
+
+abbrev pub afterOne : List PackedLocation → One → Trial
+afterOne locations nowhere = stops
+afterOne locations (placed l free) = whole (locations ++ (l ∷ [])) free
+
+abbrev pub next : Trial → RectToInsert → Trial
+next stops r = stops
+next (whole locations free) r = afterOne locations (placeOne free r)
+
+unfoldable pub placeAll : Trial → List RectToInsert → Trial
+placeAll t [] = t
+placeAll t (r ∷ rs) = placeAll (next t r) rs
+
+-- "for each rectangle the free sections are tried ..", in table order
+unfoldable pub placeGroup : List BinSection → List RectToInsert → Trial
+placeGroup free rs = placeAll (whole [] free) rs

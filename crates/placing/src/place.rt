@@ -1,0 +1,65 @@
+// The free sections tried from the last to the first.
+ghost use mathlib.Core.Path.{_≡_};
+ghost use Prim.Native.Nat.{_+_, _*_, _≤_, _<_};
+ghost use lib.ListN.{length};
+ghost use Rattle.lists.specs.Tab.{removeAt};
+ghost use Rattle.sections.specs.Sections.{sections};
+ghost use Rattle.try_place.specs.Choice.{SmallBoxes};
+ghost use Rattle.try_place.specs.Appended.{appendedOf};
+ghost use Rattle.placing.specs.Added.{Replaced};
+ghost use Rattle.placing.specs.Place.{PlacedIn, Reaching};
+use crate::add_new_sections::add_new_sections;
+use bin_section::BinSection;
+use bin_section::RectToInsert;
+use sections::remove_section;
+use try_place::PackedLocation;
+use try_place::Placement;
+use try_place::try_place;
+
+// Where a rectangle went.
+pub enum Spot {
+    At(PackedLocation),
+    Nowhere,
+}
+
+// Where it went, and the number of free sections afterwards.
+pub struct Placed {
+    pub spot: Spot,
+    pub count: usize,
+}
+
+// The section at i is removed, later ones move down one, and the new ones are appended. Answers the new count.
+fn replace(words: &mut [u32], count: usize, i: usize, three: [BinSection; 3]) -> usize
+    requires { ⌜ (count * 6 + 12 ≤ length (now words)) × (i < count) × SmallBoxes three ⌝ }
+    ensures { λ n. ⌜ Replaced count i (appendedOf three) n (now (words .entry)) (now (words .exit)) ⌝ }
+{
+    remove_section(words, count, i);
+    add_new_sections(words, count - 1, three)
+}
+
+// "the free sections are tried from the last to the first, the first that fits is removed"
+pub fn place_rect(words: &mut [u32], count: usize, incoming: RectToInsert) -> Placed
+    requires { ⌜ (count * 6 + 12 ≤ length (now words)) × Reaching count (now words) ⌝ }
+    ensures { λ p. ⌜ PlacedIn count incoming p (now (words .entry)) (now (words .exit)) ⌝ }
+{
+    let mut i = count;
+    while 0 < i {
+        i -= 1;
+        let section = BinSection::read(words, i);
+        let tried = try_place(section, incoming);
+        let answer = tried.answer;
+        let Placement::Placed(location) = answer else {
+            continue;
+        };
+        let three = tried.sections;
+        let left = replace(words, count, i, three);
+        return Placed {
+            spot: Spot::At(location),
+            count: left,
+        };
+    }
+    Placed {
+        spot: Spot::Nowhere,
+        count,
+    }
+}
