@@ -53,6 +53,14 @@ lowest-here (suc n) (suc r) f p h e =
     cond-no 0 (suc (lowest n (λ k. f (suc k)))) (f 0) (p .at 0 (omega arith))
     ∙ ap suc (lowest-here n r (λ k. f (suc k)) (record { at = λ i l. p .at (suc i) (omega arith) }) (le-of-suc-le-suc h) e)
 
+-- two tests that agree below n
+pub lowest-same : (n : ℕ) (f g : ℕ → Bool) → ((i : ℕ) → i < n → f i ≡ g i) → lowest n f ≡ lowest n g
+unfolding lowest
+lowest-same zero f g e = refl
+lowest-same (suc n) f g e =
+    ap (λ (b : Bool). cond b 0 (suc (lowest n (λ k. f (suc k))))) (e 0 (omega arith))
+    ∙ ap (λ (m : ℕ). cond (g 0) 0 (suc m)) (lowest-same n (λ k. f (suc k)) (λ k. g (suc k)) (λ i h. e (suc i) (omega arith)))
+
 -- where a loop that counts up to n ends
 pub lowest-end : (n i : ℕ) (f : ℕ → Bool) → None i f → n ≤ i → lowest n f ≡ n
 lowest-end n i f p h = lowest-none n f (none-less n i f p h)
@@ -114,3 +122,10 @@ any-some (suc n) f e = go (any-some n f) (anyBelow n f) refl e
         → (i : ℕ) × (i < suc n) × (f i ≡ true)
     go rest true p e = let r = rest p in (r .0, le-step (r .1), r .2)
     go rest false p e = (n, lt-suc-self n, e)
+
+pub any-here : (n i : ℕ) (f : ℕ → Bool) → i < n → f i ≡ true → anyBelow n f ≡ true
+any-here n i f h e = go (anyBelow n f) refl
+  where
+    go : (b : Bool) → anyBelow n f ≡ b → b ≡ true
+    go true p = refl
+    go false p = absurd (true-false (sym e ∙ any-none n f p .at i h))

@@ -1,4 +1,5 @@
 pub mod Lowest
+pub mod Pick
 pub mod Sort
 pub mod Sum
 pub mod Tab

@@ -1,0 +1,2 @@
+pub mod Grouping
+pub mod Ordering

@@ -1,0 +1,4 @@
+pub mod Rect
+pub mod Checks
+pub mod Groups
+pub mod Sorting
