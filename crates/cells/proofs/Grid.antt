@@ -1,13 +1,15 @@
 -- Sums over the cells of a grid, and a box's cells counted: they are as many as its volume says.
-use mathlib.Core.Path.{_≡_, refl, sym, ap₂, _∙_}
+use mathlib.Core.Path.{_≡_, refl, sym, ap, ap₂, _∙_}
 use Prim.Native.Nat.{ℕ, zero, suc, _+_, _-_, _*_, _≤_, _<_, min}
-use native.Mathlib.Nat.{mul-assoc, mul-one, mul-comm, zero-mul, mul-le-mul, mul-zero}
+use mathlib.Core.Logic.{_⊎_, inl, inr}
+use native.Mathlib.Nat.{add-assoc, add-mul, mul-add, mul-pos, eq-zero-or-pos, mul-assoc, mul-one, mul-comm, zero-mul, mul-le-mul, mul-zero}
 use native.Mathlib.Omega.{arith}
 use Rattle.lists.specs.Sum.{sumTo}
 use Rattle.lists.proofs.Sums.{sum-ext, sum-add, sum-left, sum-right, sum-all, sum-most, sum-full, sum-less}
 use Rattle.bin_section.specs.declared.width_height_depth.WidthHeightDepth.{WidthHeightDepth}
 use Rattle.bin_section.specs.declared.section.BinSection.{BinSection}
-use Rattle.bin_section.specs.Sides.{volumeOf}
+use Rattle.bin_section.specs.Sides.{sides, volumeOf}
+use Rattle.bin_section.specs.Section.{section}
 use Rattle.bin_section.specs.Cell.{Within, HasCell}
 use Rattle.cells.specs.Whole.{Inside, InChamber}
 
@@ -48,6 +50,12 @@ bit-sum n o s h =
     let e : sumTo n (reach o) ≡ sumTo n (bit o s) + sumTo n (reach (o + s)) =
     sum-ext n (reach o) (λ c. bit o s c + reach (o + s) c) (λ c l. bit-reach o s c) ∙ sum-add n (bit o s) (reach (o + s)) in
     omega (arith, reach-sum n o, reach-sum n (o + s))
+
+-- an interval in two parts
+bit-cut : (o s t c : ℕ) → bit o (s + t) c ≡ bit o s c + bit (o + s) t c
+bit-cut o s t c =
+    let e : reach (o + s + t) c ≡ reach (o + (s + t)) c = ap (λ (k : ℕ). reach k c) (add-assoc o s t) in
+    omega (arith, bit-reach o (s + t) c, bit-reach o s c, bit-reach (o + s) t c)
 
 -- ---- whether a box has a cell
 
@@ -90,6 +98,43 @@ has-pos b cx cy cz p =
       alongY = bit-pos (b .y) (b .whd .height) cy (pos-left iy iz q);
       alongZ = bit-pos (b .z) (b .whd .depth) cz (pos-right iy iz q);
     }
+
+-- a box cut in two along one axis
+module _ (x y z w h d s cx cy cz : ℕ) where
+  pub has-cut-x :
+      has (section x y z (sides (w + s) h d)) cx cy cz
+      ≡ has (section x y z (sides w h d)) cx cy cz + has (section (x + w) y z (sides s h d)) cx cy cz
+  unfolding has
+  has-cut-x = rw (bit-cut x w s cx) (add-mul (bit x w cx) (bit (x + w) s cx) (bit y h cy * bit z d cz))
+
+  pub has-cut-y :
+      has (section x y z (sides w (h + s) d)) cx cy cz
+      ≡ has (section x y z (sides w h d)) cx cy cz + has (section x (y + h) z (sides w s d)) cx cy cz
+  unfolding has
+  has-cut-y =
+      rw (bit-cut y h s cy, add-mul (bit y h cy) (bit (y + h) s cy) (bit z d cz))
+      (mul-add (bit x w cx) (bit y h cy * bit z d cz) (bit (y + h) s cy * bit z d cz))
+
+  pub has-cut-z :
+      has (section x y z (sides w h (d + s))) cx cy cz
+      ≡ has (section x y z (sides w h d)) cx cy cz + has (section x y (z + d) (sides w h s)) cx cy cz
+  unfolding has
+  has-cut-z =
+      rw (bit-cut z d s cz, mul-add (bit y h cy) (bit z d cz) (bit (z + d) s cz))
+      (mul-add (bit x w cx) (bit y h cy * bit z d cz) (bit y h cy * bit (z + d) s cz))
+
+-- a box of no volume has no cell
+pub has-none : (b : BinSection) (cx cy cz : ℕ) → volumeOf (b .whd) ≡ 0 → has b cx cy cz ≡ 0
+has-none b cx cy cz e = go (eq-zero-or-pos (has b cx cy cz))
+  where
+    go : (has b cx cy cz ≡ 0) ⊎ (0 < has b cx cy cz) → has b cx cy cz ≡ 0
+    go (inl z) = z
+    go (inr p) =
+        let c = has-pos b cx cy cz p in
+        let wide : 0 < b .whd .width = omega arith in
+        let tall : 0 < b .whd .height = omega arith in
+        let deep : 0 < b .whd .depth = omega arith in
+        absurd (omega (arith, mul-pos (mul-pos wide tall) deep))
 
 -- ---- the sum over a chamber's cells
 
