@@ -1,7 +1,7 @@
 -- What the replies of an audit mean in unit cells, for every input past checks 1 and 2.
 use Prim.Native.Nat.{ℕ, _≤_, _<_}
 use mathlib.Core.Path.{_≡_, refl, sym, ap, _∙_, subst}
-use mathlib.Core.Logic.{inl, inr}
+use mathlib.Core.Logic.{_⊎_, inl, inr}
 use mathlib.Core.List.{List}
 use mathlib.Core.Bool.{Bool, true, false}
 use native.Mathlib.Decide.{decLt}
@@ -15,13 +15,15 @@ use Rattle.bin_section.specs.declared.width_height_depth.WidthHeightDepth.{Widt
 use Rattle.bin_section.specs.declared.section.BinSection.{BinSection}
 use Rattle.bin_section.specs.declared.reply.Reply.{Reply}
 use Rattle.bin_section.specs.Sides.{volumeOf, sidesOk}
+use Rattle.bin_section.specs.Section.{wordsOf}
 use Rattle.bin_section.specs.Replies.{reply}
 use Rattle.cells.specs.Whole.{boxAt, AllInside, Apart, Whole, volumes}
 use Rattle.cells.proofs.Counting.{volumes-fit, sum→whole, less→gap, whole-filled, whole-no-gap}
-use Rattle.audit.specs.Audit.{auditBoxes, lengthsOk, outside, sharesEarlier, auditReply, auditOf}
+use Rattle.audit.specs.Audit.{auditBoxes, lengthsOk, outside, sharesEarlier, auditReply, shownOf, auditOf}
 use Rattle.audit.specs.Meaning.{Given, FirstOutside, FirstShared, CellInNoBox, AuditMeans}
 use Rattle.audit.proofs.Tests.{not-outside→inside, inside→not-outside, outside→not-inside, not-inside→outside, none-inside, inside-none, not-shares→apart, apart→not-shares, shares→some, some→shares}
-use Rattle.audit.proofs.Replying.{firstOutside, firstShared, reply-outside, reply-shared, reply-gap, reply-whole}
+use Rattle.audit.proofs.TwoLists.{words-box}
+use Rattle.audit.proofs.Replying.{firstOutside, firstShared, reply-outside, reply-shared, reply-gap, reply-whole, namesBox, named-box}
 
 -- ---- the lowest index that a check finds, and what that means
 
@@ -201,3 +203,19 @@ audit-means whd placed free a b =
       shared = λ j. (to-shared whd boxes answer j f, from-shared whd placed free a b j);
       missing = (to-gap whd boxes answer f, from-gap whd placed free a b);
     }
+
+-- with 16 or 17 the words shown are those of the box that the detail names
+pub audit-shows :
+    (whd : WidthHeightDepth) (placed free : List ℕ) (n i : ℕ)
+    → auditOf whd placed free .answer ≡ reply n i
+    → (n ≡ 16) ⊎ (n ≡ 17)
+    → auditOf whd placed free .shown ≡ wordsOf (boxAt (auditBoxes placed free) i)
+unfolding auditOf shownOf
+audit-shows whd placed free n i e which =
+    let named = names which in
+    let p = named-box whd placed free (reply n i) (sym e) named in
+    rw (e, named) (words-box placed free i (p .0) (p .1))
+  where
+    names : (n ≡ 16) ⊎ (n ≡ 17) → namesBox (reply n i) ≡ true
+    names (inl q) = rw q refl
+    names (inr q) = rw q refl

@@ -97,21 +97,24 @@ ordered-named false false false false true i j h = absurd (true-false (sym h))
 ordered-named false false false false false i j h = absurd (true-false (sym h))
 
 module _ (whd : WidthHeightDepth) (placed free : List ℕ) (r : Reply) (e : r ≡ auditReply whd placed free) where
+  abbrev both : List BinSection
+  both = auditBoxes placed free
+
   -- its box is one of the two lists', and these are of six words a box
   pub named-box : namesBox r ≡ true → (length placed % 6 ≡ 0) × (r .detail < length placed / 6 + length free / 6)
   unfolding auditReply inOrder
   named-box h =
       go (ordered-named (not (lengthsOk (length placed) (length free))) (not (sidesOk whd))
-      (ltb (firstOutside whd (auditBoxes placed free)) (length (auditBoxes placed free))) (ltb (firstShared (auditBoxes placed free)) (length (auditBoxes placed free)))
-      (not (eqb (volumes (auditBoxes placed free)) (volumeOf whd))) (firstOutside whd (auditBoxes placed free)) (firstShared (auditBoxes placed free)) (rw e at h))
+      (ltb (firstOutside whd both) (length both)) (ltb (firstShared both) (length both))
+      (not (eqb (volumes both) (volumeOf whd))) (firstOutside whd both) (firstShared both) (rw e at h))
     where
-      below : (i : ℕ) → ltb i (length (auditBoxes placed free)) ≡ true → r .detail ≡ i → r .detail < length placed / 6 + length free / 6
-      below i l d = omega (arith, ltb-true i (length (auditBoxes placed free)) l, boxes-length placed free)
+      below : (i : ℕ) → ltb i (length both) ≡ true → r .detail ≡ i → r .detail < length placed / 6 + length free / 6
+      below i l d = omega (arith, ltb-true i (length both) l, boxes-length placed free)
 
       go :
           (not (lengthsOk (length placed) (length free)) ≡ false)
-          × (((ltb (firstOutside whd (auditBoxes placed free)) (length (auditBoxes placed free)) ≡ true) × (auditReply whd placed free .detail ≡ firstOutside whd (auditBoxes placed free)))
-          ⊎ ((ltb (firstShared (auditBoxes placed free)) (length (auditBoxes placed free)) ≡ true) × (auditReply whd placed free .detail ≡ firstShared (auditBoxes placed free))))
+          × (((ltb (firstOutside whd both) (length both) ≡ true) × (auditReply whd placed free .detail ≡ firstOutside whd both))
+          ⊎ ((ltb (firstShared both) (length both) ≡ true) × (auditReply whd placed free .detail ≡ firstShared both)))
           → (length placed % 6 ≡ 0) × (r .detail < length placed / 6 + length free / 6)
       go (a, inl (l, d)) = (lengths (length placed) (length free) (not-false _ a) .placed-whole, below _ l (ap (λ (q : Reply). q .detail) e ∙ d))
       go (a, inr (l, d)) = (lengths (length placed) (length free) (not-false _ a) .placed-whole, below _ l (ap (λ (q : Reply). q .detail) e ∙ d))

@@ -3,14 +3,17 @@ use Prim.Native.Nat.{ℕ, _+_, _*_, _-_, _/_, _%_, _≤_, _<_}
 use mathlib.Core.Path.{_≡_, refl, sym, ap, ap₂, _∙_, subst}
 use mathlib.Core.List.{List, _++_}
 use mathlib.Core.Bool.{Bool, true, false, _||_}
+use native.Mathlib.Nat.{add-zero}
+use native.Mathlib.Decide.{decLt}
 use native.Mathlib.Omega.{arith}
 use lib.ListN.{length, getD, take, drop, length-append, List·getD-append, length-drop}
 use lib.Seq.{getD-append-add, take-append-le, drop-append-le, drop-append-add}
 use Rattle.lists.specs.Lowest.{lowest, anyBelow}
+use Rattle.lists.specs.Tab.{tab}
 use Rattle.lists.proofs.Lowests.{None, lowest-here, lowest-end}
-use Rattle.lists.proofs.Tabs.{length-tab, getD-tab}
+use Rattle.lists.proofs.Tabs.{length-tab, getD-tab, middle}
 use Rattle.bin_section.specs.declared.section.BinSection.{BinSection}
-use Rattle.bin_section.specs.Section.{sectionAt, zeroSection}
+use Rattle.bin_section.specs.Section.{sectionAt, zeroSection, wordsOf}
 use Rattle.bin_section.specs.Overlap.{overlapsOf}
 use Rattle.cells.specs.Whole.{boxAt}
 use Rattle.audit.specs.Audit.{boxesOf, auditBoxes, sharesEarlier}
@@ -19,6 +22,11 @@ use Rattle.audit.proofs.Anys.{any-same, any-parts}
 -- how many words a part from n to n + 6 has
 pub six : (n : ℕ) → n + 6 - n ≡ 6
 six n = omega arith
+
+-- the words of a box of one list
+box-words : (words : List ℕ) (i : ℕ) → i < length words / 6 → take 6 (drop (i * 6) words) ≡ wordsOf (sectionAt words i)
+unfolding sectionAt tab
+box-words words i h = middle 6 (i * 6) words (omega arith) ∙ simp add-zero
 
 module _ (placed free : List ℕ) where
   pub boxes-length : length (auditBoxes placed free) ≡ length placed / 6 + length free / 6
@@ -60,6 +68,18 @@ module _ (placed free : List ℕ) where
       let e : length placed + (i - first) * 6 ≡ i * 6 = omega arith in
       subst (λ (n : ℕ). take 6 (drop ((i - first) * 6) free) ≡ take 6 (drop n (placed ++ free))) e
       (ap (λ (l : List ℕ). take 6 l) (sym (drop-append-add placed free ((i - first) * 6))))
+
+  -- they are the words of the box at the index
+  pub words-box : (i : ℕ) → length placed % 6 ≡ 0 → i < length placed / 6 + length free / 6 → take 6 (drop (i * 6) (placed ++ free)) ≡ wordsOf (boxAt (auditBoxes placed free) i)
+  words-box i whole h = go (decLt i (length placed / 6))
+    where
+      go : Dec (i < length placed / 6) → take 6 (drop (i * 6) (placed ++ free)) ≡ wordsOf (boxAt (auditBoxes placed free) i)
+      go (yes l) = sym (words-placed i l) ∙ box-words placed i l ∙ ap wordsOf (sym (box-placed i l))
+      go (no l) =
+          let k : length placed / 6 ≤ i = omega arith in
+          sym (words-free i (length placed / 6) whole refl k)
+          ∙ box-words free (i - length placed / 6) (omega arith)
+          ∙ ap wordsOf (box-free i (length placed / 6) refl k h)
 
   -- ---- a loop through the boxes of both lists, n of them, that asks a test of each
 
