@@ -1,0 +1,6 @@
+pub mod Anys
+pub mod Means
+pub mod Replying
+pub mod Summing
+pub mod Tests
+pub mod TwoLists

@@ -1,0 +1,128 @@
+-- Which reply each row of checks leads to, and what a reply that names a box says of its index.
+use Prim.Native.Nat.{ℕ, _+_, _*_, _/_, _%_, _≤_, _<_}
+use mathlib.Core.Path.{_≡_, refl, sym, ap, _∙_}
+use mathlib.Core.Logic.{_⊎_, inl, inr}
+use mathlib.Core.List.{List, [], _++_}
+use mathlib.Core.Bool.{Bool, true, false, not, _&&_, _||_, cond}
+use native.Mathlib.Omega.{arith}
+use borrow.Author.Tests.{lt-ltb, le-ltb, ltb-true, leb-true, eqb-true, not-false}
+use lib.Dec.{eqb, ltb, leb}
+use lib.ListN.{length, take, drop}
+use Rattle.lists.specs.Lowest.{lowest}
+use Rattle.lists.proofs.Flags.{true-false, and-first, and-second}
+use Rattle.bin_section.specs.declared.width_height_depth.WidthHeightDepth.{WidthHeightDepth}
+use Rattle.bin_section.specs.declared.section.BinSection.{BinSection}
+use Rattle.bin_section.specs.declared.reply.Reply.{Reply}
+use Rattle.bin_section.specs.Sides.{volumeOf, sidesOk}
+use Rattle.bin_section.specs.Replies.{reply, inOrder}
+use Rattle.cells.specs.Whole.{boxAt, volumes}
+use Rattle.audit.specs.Audit.{auditBoxes, lengthsOk, outside, sharesEarlier, auditReply, shownOf, audited, auditOf}
+use Rattle.audit.proofs.TwoLists.{boxes-length}
+
+-- what lengths that pass check 1 have
+pub record Lengths (placed free : ℕ) : Type 0 where
+  pub placed-whole : placed % 6 ≡ 0
+  pub free-whole : free % 6 ≡ 0
+  pub few : placed / 6 + free / 6 ≤ 1024
+
+pub lengths : (placed free : ℕ) → lengthsOk placed free ≡ true → Lengths placed free
+unfolding lengthsOk
+lengths placed free h =
+    let p = eqb (placed % 6) 0 in
+    let f = eqb (free % 6) 0 in
+    let n = leb (placed / 6 + free / 6) 1024 in
+    let fn = and-second p (f && n) h in
+    record {
+      placed-whole = eqb-true _ _ (and-first p (f && n) h);
+      free-whole = eqb-true _ _ (and-first f n fn);
+      few = leb-true _ _ (and-second f n fn);
+    }
+
+-- the lowest indices that 16 and 17 find
+abbrev pub firstOutside : WidthHeightDepth → List BinSection → ℕ
+firstOutside whd boxes = lowest (length boxes) (λ i. outside whd (boxAt boxes i))
+
+abbrev pub firstShared : List BinSection → ℕ
+firstShared boxes = lowest (length boxes) (sharesEarlier boxes)
+
+module _ (whd : WidthHeightDepth) (placed free : List ℕ) where
+  abbrev boxes : List BinSection
+  boxes = auditBoxes placed free
+
+  pub reply-length : lengthsOk (length placed) (length free) ≡ false → reply 1 0 ≡ auditReply whd placed free
+  unfolding auditReply inOrder
+  reply-length a = rw a
+
+  module _ (a : lengthsOk (length placed) (length free) ≡ true) where
+    pub reply-chamber : sidesOk whd ≡ false → reply 2 0 ≡ auditReply whd placed free
+    unfolding auditReply inOrder
+    reply-chamber b = rw (a, b)
+
+    module _ (b : sidesOk whd ≡ true) where
+      pub reply-outside : firstOutside whd boxes < length boxes → reply 16 (firstOutside whd boxes) ≡ auditReply whd placed free
+      unfolding auditReply inOrder
+      reply-outside h = rw (a, b, lt-ltb _ _ h)
+
+      module _ (inside : length boxes ≤ firstOutside whd boxes) where
+        pub reply-shared : firstShared boxes < length boxes → reply 17 (firstShared boxes) ≡ auditReply whd placed free
+        unfolding auditReply inOrder
+        reply-shared h = rw (a, b, le-ltb _ _ inside, lt-ltb _ _ h)
+
+        module _ (apart : length boxes ≤ firstShared boxes) where
+          pub reply-gap : eqb (volumes boxes) (volumeOf whd) ≡ false → reply 18 0 ≡ auditReply whd placed free
+          unfolding auditReply inOrder
+          reply-gap e = rw (a, b, le-ltb _ _ inside, le-ltb _ _ apart, e)
+
+          pub reply-whole : eqb (volumes boxes) (volumeOf whd) ≡ true → reply 0 0 ≡ auditReply whd placed free
+          unfolding auditReply inOrder
+          reply-whole e = rw (a, b, le-ltb _ _ inside, le-ltb _ _ apart, e)
+
+-- ---- a reply that names a box
+
+-- the five checks, by whether they fire
+abbrev ordered : Bool → Bool → Bool → Bool → Bool → ℕ → ℕ → Reply
+ordered l c o s g i j = cond l (reply 1 0) (cond c (reply 2 0) (cond o (reply 16 i) (cond s (reply 17 j) (cond g (reply 18 0) (reply 0 0)))))
+
+-- it is 16 or 17
+abbrev pub namesBox : Reply → Bool
+namesBox r = eqb (r .number) 16 || eqb (r .number) 17
+
+ordered-named : (l c o s g : Bool) (i j : ℕ) → namesBox (ordered l c o s g i j) ≡ true
+    → (l ≡ false) × (((o ≡ true) × (ordered l c o s g i j .detail ≡ i)) ⊎ ((s ≡ true) × (ordered l c o s g i j .detail ≡ j)))
+ordered-named true c o s g i j h = absurd (true-false (sym h))
+ordered-named false true o s g i j h = absurd (true-false (sym h))
+ordered-named false false true s g i j h = (refl, inl (refl, refl))
+ordered-named false false false true g i j h = (refl, inr (refl, refl))
+ordered-named false false false false true i j h = absurd (true-false (sym h))
+ordered-named false false false false false i j h = absurd (true-false (sym h))
+
+module _ (whd : WidthHeightDepth) (placed free : List ℕ) (r : Reply) (e : r ≡ auditReply whd placed free) where
+  abbrev both : List BinSection
+  both = auditBoxes placed free
+
+  -- its box is one of the two lists', and these are of six words a box
+  pub named-box : namesBox r ≡ true → (length placed % 6 ≡ 0) × (r .detail < length placed / 6 + length free / 6)
+  unfolding auditReply inOrder
+  named-box h =
+      go (ordered-named (not (lengthsOk (length placed) (length free))) (not (sidesOk whd))
+      (ltb (firstOutside whd both) (length both)) (ltb (firstShared both) (length both))
+      (not (eqb (volumes both) (volumeOf whd))) (firstOutside whd both) (firstShared both) (rw e at h))
+    where
+      below : (i : ℕ) → ltb i (length both) ≡ true → r .detail ≡ i → r .detail < length placed / 6 + length free / 6
+      below i l d = omega (arith, ltb-true i (length both) l, boxes-length placed free)
+
+      go :
+          (not (lengthsOk (length placed) (length free)) ≡ false)
+          × (((ltb (firstOutside whd both) (length both) ≡ true) × (auditReply whd placed free .detail ≡ firstOutside whd both))
+          ⊎ ((ltb (firstShared both) (length both) ≡ true) × (auditReply whd placed free .detail ≡ firstShared both)))
+          → (length placed % 6 ≡ 0) × (r .detail < length placed / 6 + length free / 6)
+      go (a, inl (l, d)) = (lengths (length placed) (length free) (not-false _ a) .placed-whole, below _ l (ap (λ (q : Reply). q .detail) e ∙ d))
+      go (a, inr (l, d)) = (lengths (length placed) (length free) (not-false _ a) .placed-whole, below _ l (ap (λ (q : Reply). q .detail) e ∙ d))
+
+  pub audit-named : (words : List ℕ) → namesBox r ≡ true → words ≡ take 6 (drop (r .detail * 6) (placed ++ free)) → audited r words ≡ auditOf whd placed free
+  unfolding auditOf shownOf
+  audit-named words h w = rw (← e, h, w)
+
+  pub audit-silent : namesBox r ≡ false → audited r [] ≡ auditOf whd placed free
+  unfolding auditOf shownOf
+  audit-silent h = rw (← e, h)

@@ -1,0 +1,71 @@
+-- The audit of one chamber: its checks in their order, its reply, and the words that it shows.
+use Prim.Native.Nat.{ℕ, _+_, _*_, _/_, _%_}
+use mathlib.Core.List.{List, [], _∷_, _++_}
+use mathlib.Core.Bool.{Bool, not, _&&_, _||_, cond}
+use lib.Dec.{eqb, ltb, leb}
+use lib.ListN.{length, take, drop}
+use Rattle.lists.specs.Lowest.{anyBelow}
+use Rattle.lists.specs.Tab.{tab}
+use Rattle.bin_section.specs.declared.width_height_depth.WidthHeightDepth.{WidthHeightDepth}
+use Rattle.bin_section.specs.declared.section.BinSection.{BinSection}
+use Rattle.bin_section.specs.declared.reply.Reply.{Reply}
+use Rattle.bin_section.specs.Sides.{volumeOf, sidesOk}
+use Rattle.bin_section.specs.Section.{sectionAt}
+use Rattle.bin_section.specs.Overlap.{overlapsOf}
+use Rattle.bin_section.specs.Replies.{reply, Check, once, each, inOrder}
+use Rattle.cells.specs.Whole.{boxAt, volumes}
+
+-- "6 words each": the boxes of a list of words
+unfoldable pub boxesOf : List ℕ → List BinSection
+boxesOf words = tab (length words / 6) (sectionAt words)
+
+-- "box indices count the placed list, then the free list"
+unfoldable pub auditBoxes : List ℕ → List ℕ → List BinSection
+auditBoxes placed free = boxesOf placed ++ boxesOf free
+
+-- "at most 1,024 boxes together, 6 words each", of the lengths of the two lists
+unfoldable pub lengthsOk : ℕ → ℕ → Bool
+lengthsOk placed free = eqb (placed % 6) 0 && (eqb (free % 6) 0 && leb (placed / 6 + free / 6) 1024)
+
+-- "a zero side or reaches past the chamber", along one axis and then along any. The sum is one of whole numbers.
+unfoldable pub spanOutside : ℕ → ℕ → ℕ → Bool
+spanOutside origin side chamber = eqb side 0 || ltb chamber (origin + side)
+
+unfoldable pub outside : WidthHeightDepth → BinSection → Bool
+outside whd b =
+    spanOutside (b .x) (b .whd .width) (whd .width)
+    || (spanOutside (b .y) (b .whd .height) (whd .height) || spanOutside (b .z) (b .whd .depth) (whd .depth))
+
+-- "a box shares a cell with an earlier one"
+unfoldable pub sharesEarlier : List BinSection → ℕ → Bool
+sharesEarlier boxes j = anyBelow j (λ i. overlapsOf (boxAt boxes i) (boxAt boxes j))
+
+-- "Audit: 1, 2 (sides of its one chamber), 16, 17, 18". Where neither 16 nor 17 is given, a cell is in no box exactly when
+-- the volumes do not sum to the chamber's: `Meaning` says what each reply means in cells.
+abbrev pub auditChecks : WidthHeightDepth → List ℕ → List ℕ → List BinSection → List Check
+auditChecks whd placed free boxes =
+    once 1 (not (lengthsOk (length placed) (length free)))
+    ∷ once 2 (not (sidesOk whd))
+    ∷ each 16 (length boxes) (λ i. outside whd (boxAt boxes i))
+    ∷ each 17 (length boxes) (sharesEarlier boxes)
+    ∷ once 18 (not (eqb (volumes boxes) (volumeOf whd)))
+    ∷ []
+
+unfoldable pub auditReply : WidthHeightDepth → List ℕ → List ℕ → Reply
+auditReply whd placed free = inOrder (auditChecks whd placed free (auditBoxes placed free)) (λ refusal. refusal) (reply 0 0)
+
+-- "with 16 or 17 it shows the six words of the faulty box where they lie in the placed or free list, otherwise an empty part"
+unfoldable pub shownOf : List ℕ → List ℕ → Reply → List ℕ
+shownOf placed free r =
+    cond (eqb (r .number) 16 || eqb (r .number) 17) (take 6 (drop (r .detail * 6) (placed ++ free))) []
+
+pub record Audited : Type 0 where
+  pub answer : Reply
+  pub shown : List ℕ
+
+abbrev pub audited : Reply → List ℕ → Audited
+audited answer shown = record { answer = answer; shown = shown }
+
+-- what the audit answers and shows, on every input
+unfoldable pub auditOf : WidthHeightDepth → List ℕ → List ℕ → Audited
+auditOf whd placed free = audited (auditReply whd placed free) (shownOf placed free (auditReply whd placed free))

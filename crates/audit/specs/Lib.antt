@@ -1,0 +1,2 @@
+pub mod Audit
+pub mod Meaning

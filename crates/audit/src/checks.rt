@@ -1,0 +1,105 @@
+// What the replies 16, 17 and 18 test of the boxes.
+ghost use mathlib.Core.Path.{_≡_};
+ghost use Prim.Native.Nat.{_+_, _*_, _/_, _≤_, _<_};
+ghost use lib.Dec.{eqb};
+ghost use lib.ListN.{length};
+ghost use Rattle.lists.specs.Lowest.{lowest, anyBelow};
+ghost use Rattle.bin_section.specs.Sides.{volumeOf, Small};
+ghost use Rattle.bin_section.specs.Section.{sectionAt};
+ghost use Rattle.bin_section.specs.Overlap.{overlapsOf};
+ghost use Rattle.cells.specs.Whole.{boxAt, AllInside, volumes};
+ghost use Rattle.audit.specs.Audit.{auditBoxes, spanOutside, outside, sharesEarlier};
+use crate::boxes::box_at;
+use crate::boxes::boxes_in;
+use bin_section::BinSection;
+use bin_section::WidthHeightDepth;
+
+// Along one axis: a zero side, or past the chamber. The end is a sum in 64 bits: in 32 it could wrap.
+fn span_outside(origin: u32, side: u32, chamber: u32) -> bool
+    ensures { λ r. ⌜ r ≡ spanOutside origin side chamber ⌝ }
+{
+    (side == 0) | ((chamber as u64) < (origin as u64) + (side as u64))
+}
+
+fn is_outside(whd: WidthHeightDepth, b: BinSection) -> bool
+    ensures { λ r. ⌜ r ≡ outside whd b ⌝ }
+{
+    span_outside(b.x, b.whd.width, whd.width)
+        | (span_outside(b.y, b.whd.height, whd.height) | span_outside(b.z, b.whd.depth, whd.depth))
+}
+
+// The lowest box that has a zero side or reaches past the chamber; the number of boxes where none does.
+pub fn first_outside(whd: WidthHeightDepth, placed: &[u32], free: &[u32]) -> usize
+    ensures { λ r. ⌜ r ≡ lowest (length (auditBoxes (now (placed .entry)) (now (free .entry)))) (λ i. outside whd (boxAt (auditBoxes (now (placed .entry)) (now (free .entry))) i)) ⌝ }
+{
+    let n = boxes_in(placed) + boxes_in(free);
+    let mut i = 0;
+    while i < n {
+        if is_outside(whd, box_at(placed, free, i)) {
+            return i;
+        }
+        i += 1;
+    }
+    n
+}
+
+// Whether one of the first n boxes of a list shares a cell with b.
+fn shares_with(words: &[u32], n: usize, b: BinSection) -> bool
+    requires { ⌜ n * 6 ≤ length (now words) ⌝ }
+    ensures { λ r. ⌜ r ≡ anyBelow n (λ i. overlapsOf (sectionAt (now (words .entry)) i) b) ⌝ }
+{
+    let mut i = 0;
+    while i < n {
+        if BinSection::read(words, i).overlaps(b) {
+            return true;
+        }
+        i += 1;
+    }
+    false
+}
+
+// Whether box j shares a cell with an earlier one: box j is read once, the earlier ones list by list.
+fn shares_earlier(placed: &[u32], free: &[u32], j: usize) -> bool
+    requires { ⌜ j < length (now placed) / 6 + length (now free) / 6 ⌝ }
+    ensures { λ r. ⌜ r ≡ sharesEarlier (auditBoxes (now (placed .entry)) (now (free .entry))) j ⌝ }
+{
+    let b = box_at(placed, free, j);
+    let first = boxes_in(placed);
+    if j <= first {
+        return shares_with(placed, j, b);
+    }
+    if shares_with(placed, first, b) {
+        return true;
+    }
+    shares_with(free, j - first, b)
+}
+
+// The lowest box that shares a cell with an earlier one; the number of boxes where none does.
+pub fn first_shared(placed: &[u32], free: &[u32]) -> usize
+    ensures { λ r. ⌜ r ≡ lowest (length (auditBoxes (now (placed .entry)) (now (free .entry)))) (sharesEarlier (auditBoxes (now (placed .entry)) (now (free .entry)))) ⌝ }
+{
+    let n = boxes_in(placed) + boxes_in(free);
+    let mut j = 0;
+    while j < n {
+        if shares_earlier(placed, free, j) {
+            return j;
+        }
+        j += 1;
+    }
+    n
+}
+
+// Whether the volumes of boxes that lie inside sum to the chamber's. The sum of 1,024 of them fits 64 bits.
+pub fn fills(whd: WidthHeightDepth, placed: &[u32], free: &[u32]) -> bool
+    requires { ⌜ Small whd × (length (now placed) / 6 + length (now free) / 6 ≤ 1024) × AllInside whd (auditBoxes (now placed) (now free)) ⌝ }
+    ensures { λ r. ⌜ r ≡ eqb (volumes (auditBoxes (now (placed .entry)) (now (free .entry)))) (volumeOf whd) ⌝ }
+{
+    let n = boxes_in(placed) + boxes_in(free);
+    let mut sum = 0;
+    let mut i = 0;
+    while i < n {
+        sum += box_at(placed, free, i).whd.volume();
+        i += 1;
+    }
+    sum == whd.volume()
+}

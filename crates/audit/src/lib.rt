@@ -1,0 +1,106 @@
+// The audit of one chamber: whether its placed and free boxes lie inside and hold each unit cell exactly once.
+ghost use mathlib.Core.Path.{_≡_};
+ghost use Prim.Native.Nat.{_+_, _*_, _/_, _%_, _<_};
+ghost use lib.ListN.{length, take, drop};
+ghost use mathlib.Core.List.{_++_};
+ghost use Rattle.bin_section.specs.Replies.{reply};
+ghost use Rattle.audit.specs.Audit.{lengthsOk, auditReply, audited, auditOf};
+
+mod boxes;
+mod checks;
+
+use bin_section::BinSection;
+use bin_section::Reply;
+use bin_section::WidthHeightDepth;
+use boxes::boxes_in;
+use checks::fills;
+use checks::first_outside;
+use checks::first_shared;
+
+// The numbers of an audit's replies, and its limit.
+pub struct ChamberAudit {}
+
+impl ChamberAudit {
+    // "at most 1,024 boxes together"
+    pub const MOST_BOXES: usize = 1024;
+
+    pub const WHOLE: u32 = 0;
+
+    pub const BAD_LENGTH: u32 = 1;
+
+    pub const BAD_CHAMBER: u32 = 2;
+
+    pub const OUTSIDE: u32 = 16;
+
+    pub const SHARED: u32 = 17;
+
+    pub const GAP: u32 = 18;
+}
+
+fn lengths_ok(placed: &[u32], free: &[u32]) -> bool
+    ensures { λ r. ⌜ r ≡ lengthsOk (length (now (placed .entry))) (length (now (free .entry))) ⌝ }
+{
+    (placed.len() % BinSection::WORDS == 0)
+        & ((free.len() % BinSection::WORDS == 0)
+            & (boxes_in(placed) + boxes_in(free) <= ChamberAudit::MOST_BOXES))
+}
+
+// The first check that fires answers, else the chamber is whole.
+fn reply_of(whd: WidthHeightDepth, placed: &[u32], free: &[u32]) -> Reply
+    ensures { λ r. ⌜ r ≡ auditReply whd (now (placed .entry)) (now (free .entry)) ⌝ }
+{
+    if !lengths_ok(placed, free) {
+        return Reply::new(ChamberAudit::BAD_LENGTH, 0);
+    }
+    if !whd.in_range() {
+        return Reply::new(ChamberAudit::BAD_CHAMBER, 0);
+    }
+    let n = boxes_in(placed) + boxes_in(free);
+    let out = first_outside(whd, placed, free);
+    if out < n {
+        return Reply::new(ChamberAudit::OUTSIDE, out as u32);
+    }
+    let shared = first_shared(placed, free);
+    if shared < n {
+        return Reply::new(ChamberAudit::SHARED, shared as u32);
+    }
+    if !fills(whd, placed, free) {
+        return Reply::new(ChamberAudit::GAP, 0);
+    }
+    Reply::new(ChamberAudit::WHOLE, 0)
+}
+
+// The six words of box i where they lie: in the placed list, or past its boxes in the free list.
+fn words_of_box<'a>(placed: &'a [u32], free: &'a [u32], i: usize) -> &'a [u32]
+    requires { ⌜ (length (now placed) % 6 ≡ 0) × (i < length (now placed) / 6 + length (now free) / 6) ⌝ }
+    ensures { λ r. ⌜ now r ≡ take 6 (drop (i * 6) (now (placed .entry) ++ now (free .entry))) ⌝ }
+{
+    let first = boxes_in(placed);
+    if i < first {
+        let at = i * BinSection::WORDS;
+        let end = at + BinSection::WORDS;
+        return &placed[at..end];
+    }
+    let at = (i - first) * BinSection::WORDS;
+    let end = at + BinSection::WORDS;
+    &free[at..end]
+}
+
+// Audit a chamber. The reply goes through number and detail; the part that is returned shows the faulty box of replies 16 and 17.
+pub fn audit<'a>(
+    whd: WidthHeightDepth,
+    placed: &'a [u32],
+    free: &'a [u32],
+    number: &mut u32,
+    detail: &mut u32,
+) -> &'a [u32]
+    ensures { λ r. ⌜ audited (reply (now (number .exit)) (now (detail .exit))) (now r) ≡ auditOf whd (now (placed .entry)) (now (free .entry)) ⌝ }
+{
+    let answer = reply_of(whd, placed, free);
+    *number = answer.number;
+    *detail = answer.detail;
+    if (answer.number == ChamberAudit::OUTSIDE) | (answer.number == ChamberAudit::SHARED) {
+        return words_of_box(placed, free, answer.detail as usize);
+    }
+    &placed[..0]
+}

@@ -1,0 +1,4 @@
+pub mod Counting
+pub mod Grid
+pub mod Held
+pub mod Insides

@@ -1,0 +1,62 @@
+-- What it means in unit cells that a list of boxes fills a chamber.
+use mathlib.Core.Path.{_≡_}
+use mathlib.Core.List.{List, [], _∷_}
+use Prim.Native.Nat.{ℕ, _+_, _≤_, _<_}
+use lib.ListN.{length, getD}
+use Rattle.bin_section.specs.declared.width_height_depth.WidthHeightDepth.{WidthHeightDepth}
+use Rattle.bin_section.specs.declared.section.BinSection.{BinSection}
+use Rattle.bin_section.specs.Sides.{volumeOf}
+use Rattle.bin_section.specs.Section.{zeroSection}
+use Rattle.bin_section.specs.Cell.{HasCell, SharesCell}
+
+-- the box at an index of the list
+abbrev pub boxAt : List BinSection → ℕ → BinSection
+boxAt boxes i = getD boxes i zeroSection
+
+-- "lies inside with no zero side"
+pub record Inside (whd : WidthHeightDepth) (b : BinSection) : Type 0 where
+  pub wide : 0 < b .whd .width
+  pub tall : 0 < b .whd .height
+  pub deep : 0 < b .whd .depth
+  pub right : b .x + b .whd .width ≤ whd .width
+  pub above : b .y + b .whd .height ≤ whd .height
+  pub behind : b .z + b .whd .depth ≤ whd .depth
+
+-- each box of the list does
+pub record AllInside (whd : WidthHeightDepth) (boxes : List BinSection) : Type 0 where
+  pub at : (i : ℕ) → i < length boxes → Inside whd (boxAt boxes i)
+
+-- no box "shares a cell with an earlier one"
+pub record Apart (boxes : List BinSection) : Type 0 where
+  pub at : (i j : ℕ) → i < j → j < length boxes → ¬ (SharesCell (boxAt boxes i) (boxAt boxes j))
+
+-- the unit cell at cx, cy, cz is one of the chamber's
+pub record InChamber (whd : WidthHeightDepth) (cx cy cz : ℕ) : Type 0 where
+  pub inX : cx < whd .width
+  pub inY : cy < whd .height
+  pub inZ : cz < whd .depth
+
+-- the cell "lies in exactly one box"
+pub record InOneBox (boxes : List BinSection) (cx cy cz : ℕ) : Type 0 where
+  pub index : ℕ
+  pub below : index < length boxes
+  pub holds : HasCell (boxAt boxes index) cx cy cz
+  pub only : (i : ℕ) → i < length boxes → HasCell (boxAt boxes i) cx cy cz → i ≡ index
+
+-- "each lies inside with no zero side and each unit cell lies in exactly one box"
+pub record Whole (whd : WidthHeightDepth) (boxes : List BinSection) : Type 0 where
+  pub inside : AllInside whd boxes
+  pub exactly : (cx cy cz : ℕ) → InChamber whd cx cy cz → InOneBox boxes cx cy cz
+
+-- "a cell is in no box"
+pub record Gap (whd : WidthHeightDepth) (boxes : List BinSection) : Type 0 where
+  pub cx : ℕ
+  pub cy : ℕ
+  pub cz : ℕ
+  pub cell : InChamber whd cx cy cz
+  pub free : (i : ℕ) → i < length boxes → ¬ (HasCell (boxAt boxes i) cx cy cz)
+
+-- the sum of the boxes' volumes
+unfoldable pub volumes : List BinSection → ℕ
+volumes [] = 0
+volumes (b ∷ bs) = volumeOf (b .whd) + volumes bs
