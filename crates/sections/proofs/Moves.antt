@@ -5,15 +5,15 @@ use mathlib.Core.List.{List, [], _∷_, _++_}
 use native.Mathlib.Numerals.{add-one}
 use native.Mathlib.Omega.{arith}
 use native.Mathlib.Decide.{decLt, ℕ-discrete}
-use lib.ListN.{length, getD, take, drop, replicate, length-drop, length-replicate, getD-replicate, take-append-drop}
-use lib.Seq.{take-at, getD-at, getD-drop, ext-getD}
+use lib.ListN.{length, getD, take, drop, set, replicate, length-set, List·getD-eq-default, length-drop, length-replicate, getD-replicate, take-append-drop}
+use lib.Seq.{getD-set-same, getD-set-other, take-at, getD-at, getD-drop, ext-getD}
 use Rattle.lists.specs.Tab.{removeAt, put}
 use Rattle.lists.proofs.Tabs.{tab-suc, length-removeAt}
 use Rattle.bin_section.specs.declared.section.BinSection.{BinSection}
 use Rattle.bin_section.specs.Section.{sectionAt, wordsOf, zeroSection}
 use Rattle.sections.specs.Sections.{sections, allWords}
-use Rattle.sections.specs.Changes.{Removed, Appended, ZeroPast}
-use Rattle.sections.proofs.Reading.{sectionAt-put-same, sectionAt-put-other, sections-ext, take-sections, getD-sections, length-sections, same-words, encoded, word-of}
+use Rattle.sections.specs.Changes.{Removed, Appended, ZeroPast, Cleared}
+use Rattle.sections.proofs.Reading.{sectionAt-ext, sectionAt-first, sectionAt-put-same, sectionAt-put-other, sections-ext, take-sections, getD-sections, length-sections, same-words, encoded, word-of}
 
 -- what the moves leave, in the words of the contract
 pub removed : (w w′ : List ℕ) (count i : ℕ) → sections w′ count ≡ removeAt i (sections w count) ++ (zeroSection ∷ []) → ((k : ℕ) → count ≤ k → sectionAt w′ k ≡ sectionAt w k) → i < count → Removed count i w w′
@@ -84,3 +84,50 @@ part-words w count room z =
     (length-drop (count * 6) w ∙ sym (length-replicate (length w - count * 6) 0))
     (λ j b. let b′ : j < length w - count * 6 = omega (arith, length-drop (count * 6) w) in
     getD-drop (count * 6) w j 0 ∙ zero-past w count (count * 6 + j) z (omega arith) ∙ sym (getD-replicate (length w - count * 6) j 0 0 b′)))
+
+-- ---- words cleared from an index on
+
+module _ (w₀ : List ℕ) (a : ℕ) where
+  -- the words before a as they were, those from a to k zeros
+  pub record Clearing (w : List ℕ) (k : ℕ) : Type 0 where
+    pub long : length w ≡ length w₀
+    pub low : a ≤ k
+    pub high : k ≤ length w₀
+    pub kept : (j : ℕ) → j < a → getD w j 0 ≡ getD w₀ j 0
+    pub clear : (j : ℕ) → a ≤ j → j < k → getD w j 0 ≡ 0
+
+  pub clearing-none : a ≤ length w₀ → Clearing w₀ a
+  clearing-none h =
+      record { long = refl; low = omega arith; high = h; kept = λ j l. refl; clear = λ j l m. absurd (omega arith) }
+
+  pub clearing-more : (w : List ℕ) (k : ℕ) → Clearing w k → k < length w → Clearing (set w k 0) (k + 1)
+  clearing-more w k c h =
+      record {
+        long = length-set w k 0 ∙ c .long;
+        low = omega arith;
+        high = omega arith;
+        kept = λ j l. getD-set-other w k j 0 0 (λ e. omega arith) ∙ c .kept j l;
+        clear = λ j l m. go j l (ℕ-discrete j k) m;
+      }
+    where
+      go : (j : ℕ) → a ≤ j → Dec (j ≡ k) → j < k + 1 → getD (set w k 0) j 0 ≡ 0
+      go j l (yes e) m = rw e (getD-set-same w k 0 0 h)
+      go j l (no ne) m = getD-set-other w k j 0 0 ne ∙ c .clear j l (omega arith)
+
+pub cleared : (w₀ w : List ℕ) (count k : ℕ) → Clearing w₀ (count * 6) w k → length w ≤ k → Cleared count w₀ w
+unfolding sectionAt
+cleared w₀ w count k c h =
+    let same : sections w count ≡ sections w₀ count =
+    sections-ext w w₀ count (λ i b. sectionAt-ext w w₀ i i (λ m l. c .kept (i * 6 + m) (omega arith))) in
+    let zeros : ZeroPast count w = record { zeros = λ i b. sectionAt-first w [] i (λ m l. past (i * 6 + m) (omega arith) (decLt (i * 6 + m) (length w))) } in
+    record {
+      free = same;
+      words =
+          part-words w count (omega arith) zeros
+          ∙ ap₂ (λ (l : List BinSection) (n : ℕ). allWords l ++ replicate (n - count * 6) 0) same (c .long);
+      zeros = zeros;
+    }
+  where
+    past : (j : ℕ) → count * 6 ≤ j → Dec (j < length w) → getD w j 0 ≡ 0
+    past j l (yes b) = c .clear j l (omega arith)
+    past j l (no b) = List·getD-eq-default w 0 (omega arith)

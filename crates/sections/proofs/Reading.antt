@@ -27,7 +27,7 @@ sectionAt-ext w v i j h =
       whd = record { width = h 3 (omega arith) t; height = h 4 (omega arith) t; depth = h 5 (omega arith) t };
     }
 
-sectionAt-first : (w v : List ℕ) (i : ℕ) → ((m : ℕ) → m < 6 → getD w (i * 6 + m) 0 ≡ getD v m 0) → sectionAt w i ≡ sectionAt v 0
+pub sectionAt-first : (w v : List ℕ) (i : ℕ) → ((m : ℕ) → m < 6 → getD w (i * 6 + m) 0 ≡ getD v m 0) → sectionAt w i ≡ sectionAt v 0
 unfolding sectionAt
 sectionAt-first w v i h =
     let x : getD w (i * 6) 0 ≡ getD v 0 0 = simp add-zero at (h 0 (omega arith)) in

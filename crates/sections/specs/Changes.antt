@@ -1,11 +1,12 @@
--- What a removal and an append leave of a list of words of which the first count sections are in use.
+-- What a removal, an append and a clearing leave of a list of words of which the first count sections are in use.
 use Prim.Native.Nat.{ℕ, _+_, _*_, _-_, _≤_, _<_}
 use mathlib.Core.Path.{_≡_}
 use mathlib.Core.List.{List, [], _∷_, _++_}
+use lib.ListN.{length, replicate}
 use Rattle.lists.specs.Tab.{removeAt, put}
 use Rattle.bin_section.specs.declared.section.BinSection.{BinSection}
 use Rattle.bin_section.specs.Section.{sectionAt, wordsOf, zeroSection}
-use Rattle.sections.specs.Sections.{sections}
+use Rattle.sections.specs.Sections.{sections, allWords}
 
 -- "is removed, later ones move down one": the freed last one is six zeros, and what stands past the count is as it was
 pub record Removed (count i : ℕ) (w w′ : List ℕ) : Type 0 where
@@ -22,3 +23,9 @@ pub record Appended (count : ℕ) (s : BinSection) (w w′ : List ℕ) : Type 0 
 -- "words past each count are 0"
 pub record ZeroPast (count : ℕ) (w : List ℕ) : Type 0 where
   pub zeros : (k : ℕ) → count ≤ k → sectionAt w k ≡ zeroSection
+
+-- "words past each count are 0", and the first count sections are as they were
+pub record Cleared (count : ℕ) (w w′ : List ℕ) : Type 0 where
+  pub free : sections w′ count ≡ sections w count
+  pub words : w′ ≡ allWords (sections w count) ++ replicate (length w - count * 6) 0
+  pub zeros : ZeroPast count w′

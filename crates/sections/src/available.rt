@@ -2,7 +2,7 @@
 ghost use mathlib.Core.Path.{_≡_};
 ghost use Prim.Native.Nat.{_+_, _*_, _≤_, _<_};
 ghost use lib.ListN.{length};
-ghost use Rattle.sections.specs.Changes.{Removed, Appended};
+ghost use Rattle.sections.specs.Changes.{Removed, Appended, Cleared};
 use bin_section::BinSection;
 
 // Takes the section at i out of the first count: later ones move down one, and the freed last becomes six zeros.
@@ -26,4 +26,16 @@ pub fn append_section(words: &mut [u32], count: usize, section: BinSection)
     ensures { λ _. ⌜ Appended count section (now (words .entry)) (now (words .exit)) ⌝ }
 {
     section.write(words, count);
+}
+
+// Sets every word past the first count sections to 0.
+pub fn clear_past(words: &mut [u32], count: usize)
+    requires { ⌜ count * 6 ≤ length (now words) ⌝ }
+    ensures { λ _. ⌜ Cleared count (now (words .entry)) (now (words .exit)) ⌝ }
+{
+    let mut k = count * BinSection::WORDS;
+    while k < words.len() {
+        words[k] = 0;
+        k += 1;
+    }
 }

@@ -1,0 +1,248 @@
+-- Laws of a return: which case its checks lead to, and what an accepted one writes.
+use Prim.Native.Nat.{ℕ, zero, suc, _+_, _*_, _-_, _≤_, _<_}
+use mathlib.Core.Path.{_≡_, refl, sym, ap, ap₂, _∙_}
+use mathlib.Core.List.{List, [], _∷_, _++_}
+use mathlib.Core.Bool.{Bool, true, false, not}
+use native.Mathlib.Omega.{arith}
+use native.Mathlib.Decide.{decLt}
+use borrow.Rule.Slice.PartMut.{putMid}
+use borrow.Author.Tests.{eqb-false, eq-eqb, ne-eqb}
+use lib.ListN.{length, getD, take, drop, set, length-set, length-take, length-drop}
+use lib.Seq.{ext-getD, getD-take, getD-drop}
+use lib.Dec.{eqb}
+use Rattle.lists.specs.Lowest.{lowest, anyBelow}
+use Rattle.lists.specs.Tab.{put}
+use Rattle.lists.proofs.Tabs.{length-put, getD-put-in, getD-put-before, getD-put-after}
+use Rattle.bin_section.specs.declared.section.BinSection.{BinSection}
+use Rattle.bin_section.specs.declared.reply.Reply.{Reply}
+use Rattle.bin_section.specs.Section.{wordsOf}
+use Rattle.bin_section.specs.Replies.{Check, reply, once, each, inOrder}
+use Rattle.sections.specs.Inside.{insideOf, sharesAt}
+use Rattle.target_bin.specs.declared.chamber.TargetBin.{TargetBin}
+use Rattle.target_bin.specs.Return.{chamberOf, pushChecks, returnChecks, stored, returned, returnOf}
+use Rattle.sections.proofs.Bounding.{any-lowest}
+use Rattle.target_bin.specs.Chambers.{chamberAt, chamberCount}
+use Rattle.target_bin.specs.Store.{partAt}
+use Rattle.target_bin.specs.Checks.{hasId, tableChecks}
+use Rattle.target_bin.specs.Outcome.{Outcome, outcome, refused}
+use Rattle.target_bin.proofs.Ordering.{fires, passes, all-done, Numbered, none, more, answerOf, first-passes, rest-passes, row-passes, row-fires, alone-passes, alone-fires}
+use Rattle.target_bin.proofs.Parts.{lent-part, came-back, length-partAt}
+use Rattle.target_bin.proofs.Passing.{found-fires, found-passes, numbered}
+
+-- ---- checks 9, 10 and 11
+
+module _ {A : Type 0} (f : Reply → A) (d : A) (b : TargetBin) (part : List ℕ) (box : BinSection) where
+  c9 : Check
+  c9 = once 9 (not (insideOf (b .whd) box))
+
+  c10 : Check
+  c10 = each 10 (b .count) (sharesAt box part)
+
+  c11 : Check
+  c11 = once 11 (eqb (b .count) 128)
+
+  pub push-outside : insideOf (b .whd) box ≡ false → f (reply 9 0) ≡ inOrder (pushChecks b part box) f d
+  unfolding pushChecks c9 c10 c11
+  push-outside e = sym (fires f d c9 (c10 ∷ c11 ∷ []) (ap not e))
+
+  module _ (e : insideOf (b .whd) box ≡ true) where
+    pub push-shares : (r : ℕ) → r ≡ lowest (b .count) (sharesAt box part) → r < b .count → f (reply 10 r) ≡ inOrder (pushChecks b part box) f d
+    unfolding pushChecks c9 c10 c11
+    push-shares r g h =
+        ap (λ (x : ℕ). f (reply 10 x)) g
+        ∙ sym (passes f d c9 (c10 ∷ c11 ∷ []) (ap not e) ∙ fires f d c10 (c11 ∷ []) (found-fires _ r (sharesAt box part) g h))
+
+    module _ (r : ℕ) (g : r ≡ lowest (b .count) (sharesAt box part)) (apart : b .count ≤ r) where
+      past10 : inOrder (pushChecks b part box) f d ≡ inOrder (c11 ∷ []) f d
+      unfolding pushChecks c9 c10 c11
+      past10 = passes f d c9 (c10 ∷ c11 ∷ []) (ap not e) ∙ passes f d c10 (c11 ∷ []) (found-passes _ r (sharesAt box part) g apart)
+
+      pub push-full : b .count ≡ 128 → f (reply 11 0) ≡ inOrder (pushChecks b part box) f d
+      unfolding c11
+      push-full full = sym (past10 ∙ fires f d c11 [] (eq-eqb _ _ full))
+
+      pub push-done : (b .count ≡ 128 → ⊥) → d ≡ inOrder (pushChecks b part box) f d
+      unfolding c11
+      push-done room = sym (past10 ∙ passes f d c11 [] (ne-eqb _ _ room) ∙ all-done f d)
+
+pub push-numbered : (b : TargetBin) (part : List ℕ) (box : BinSection) → Numbered (pushChecks b part box)
+unfolding pushChecks
+push-numbered b part box =
+    more (λ (e : _≡_ {A = ℕ} 9 0). omega arith) (more (λ (e : _≡_ {A = ℕ} 10 0). omega arith) (more (λ (e : _≡_ {A = ℕ} 11 0). omega arith) none))
+
+-- ---- words put into a part of a list are words put into the list
+
+module _ (w : List ℕ) (a m : ℕ) (room : a + m ≤ length w) where
+  abbrev P : List ℕ
+  P = take m (drop a w)
+
+  long-P : length P ≡ m
+  long-P = simp (length-take, length-drop) (omega arith)
+
+  at-P : (j : ℕ) → j < m → getD P j 0 ≡ getD w (a + j) 0
+  at-P j h = getD-take m (drop a w) j 0 h ∙ getD-drop a w j 0
+
+  -- the part put back as it was
+  pub put-back : put w a (take m (drop a w)) ≡ w
+  put-back = ext-getD 0 (put w a P) w (length-put w a P (omega (arith, long-P))) (λ k h. go k (decLt k a) (decLt k (a + m)))
+    where
+      go : (k : ℕ) → Dec (k < a) → Dec (k < a + m) → getD (put w a P) k 0 ≡ getD w k 0
+      go k (yes l) g = getD-put-before w a P (omega (arith, long-P)) k l
+      go k (no l) (yes g) =
+          let e : a + (k - a) ≡ k = omega arith in
+          ap (λ (i : ℕ). getD (put w a P) i 0) (sym e)
+          ∙ getD-put-in w a P (omega (arith, long-P)) (k - a) (omega (arith, long-P))
+          ∙ at-P (k - a) (omega arith)
+          ∙ ap (λ (i : ℕ). getD w i 0) e
+      go k (no l) (no g) = getD-put-after w a P (omega (arith, long-P)) k (omega (arith, long-P))
+
+  module _ (b : ℕ) (vs : List ℕ) (fits : b + length vs ≤ m) where
+    abbrev Q : List ℕ
+    Q = put P b vs
+
+    long-Q : length Q ≡ m
+    long-Q = length-put P b vs (omega (arith, long-P)) ∙ long-P
+
+    into : (k : ℕ) → a ≤ k → k < a + m → getD (put w a Q) k 0 ≡ getD Q (k - a) 0
+    into k l g =
+        let e : a + (k - a) ≡ k = omega arith in
+        ap (λ (i : ℕ). getD (put w a Q) i 0) (sym e) ∙ getD-put-in w a Q (omega (arith, long-Q)) (k - a) (omega (arith, long-Q))
+
+    back : (k : ℕ) → a ≤ k → k < a + m → getD P (k - a) 0 ≡ getD w k 0
+    back k l g = let e : a + (k - a) ≡ k = omega arith in at-P (k - a) (omega arith) ∙ ap (λ (i : ℕ). getD w i 0) e
+
+    pub put-in-part : put w a (put (take m (drop a w)) b vs) ≡ put w (a + b) vs
+    put-in-part =
+        ext-getD 0 (put w a Q) (put w (a + b) vs)
+        (length-put w a Q (omega (arith, long-Q)) ∙ sym (length-put w (a + b) vs (omega arith)))
+        (λ k h. go k (decLt k a) (decLt k (a + b)) (decLt k (a + b + length vs)) (decLt k (a + m)))
+      where
+        go : (k : ℕ) → Dec (k < a) → Dec (k < a + b) → Dec (k < a + b + length vs) → Dec (k < a + m) → getD (put w a Q) k 0 ≡ getD (put w (a + b) vs) k 0
+        go k (yes l) g h i =
+            getD-put-before w a Q (omega (arith, long-Q)) k l ∙ sym (getD-put-before w (a + b) vs (omega arith) k (omega arith))
+        go k (no l) (yes g) h i =
+            into k (omega arith) (omega arith)
+            ∙ getD-put-before P b vs (omega (arith, long-P)) (k - a) (omega arith)
+            ∙ back k (omega arith) (omega arith)
+            ∙ sym (getD-put-before w (a + b) vs (omega arith) k g)
+        go k (no l) (no g) (yes h) i =
+            let e : b + (k - a - b) ≡ k - a = omega arith in
+            let e′ : a + b + (k - a - b) ≡ k = omega arith in
+            into k (omega arith) (omega arith)
+            ∙ ap (λ (x : ℕ). getD Q x 0) (sym e)
+            ∙ getD-put-in P b vs (omega (arith, long-P)) (k - a - b) (omega arith)
+            ∙ sym (getD-put-in w (a + b) vs (omega arith) (k - a - b) (omega arith))
+            ∙ ap (λ (x : ℕ). getD (put w (a + b) vs) x 0) e′
+        go k (no l) (no g) (no h) (yes i) =
+            into k (omega arith) i
+            ∙ getD-put-after P b vs (omega (arith, long-P)) (k - a) (omega arith)
+            ∙ back k (omega arith) i
+            ∙ sym (getD-put-after w (a + b) vs (omega arith) k (omega arith))
+        go k (no l) (no g) (no h) (no i) =
+            getD-put-after w a Q (omega (arith, long-Q)) k (omega (arith, long-Q)) ∙ sym (getD-put-after w (a + b) vs (omega arith) k (omega arith))
+
+-- ---- checks 8 to 11, as the code comes to them
+
+module _ (chambers store : List ℕ) (id : ℕ) (box : BinSection) where
+  c8 : Check
+  c8 = once 8 (not (anyBelow (chamberCount chambers) (hasId chambers id)))
+
+  rest : List Check
+  rest = pushChecks (chamberAt chambers (chamberOf chambers id)) (partAt store (chamberOf chambers id)) box
+
+  -- the outcome that the checks from 8 on decide
+  abbrev pub decided : Outcome
+  decided = inOrder (returnChecks chambers store id box) (refused chambers store) (returned chambers store id box)
+
+  module _ (k : ℕ) (found : k ≡ lowest (chamberCount chambers) (hasId chambers id)) where
+    pub return-unknown : chamberCount chambers ≤ k → outcome (reply 8 0) chambers store ≡ decided
+    unfolding returnChecks c8 rest
+    return-unknown h =
+        sym (fires (refused chambers store) (returned chambers store id box) c8 rest
+        (ap not (any-lowest (chamberCount chambers) (hasId chambers id) ∙ found-passes _ k (hasId chambers id) found h)))
+
+    module _ (b : TargetBin) (h : k < chamberCount chambers) (read : b ≡ chamberAt chambers k) (room : (k + 1) * 768 ≤ length store) where
+      abbrev L : List ℕ
+      L = take (k * 768 + 768 - k * 768) (drop (k * 768) store)
+
+      here : k ≡ chamberOf chambers id
+      unfolding chamberOf
+      here = found
+
+      bin-is : chamberAt chambers (chamberOf chambers id) ≡ b
+      bin-is = sym (read ∙ ap (chamberAt chambers) here)
+
+      -- past 8 the checks are those of the part that is lent
+      past8 : decided ≡ inOrder (pushChecks b L box) (refused chambers store) (stored chambers store k (b .count) box)
+      unfolding returnChecks returned c8 rest
+      past8 =
+          passes (refused chambers store) (returned chambers store id box) c8 rest
+          (ap not (any-lowest (chamberCount chambers) (hasId chambers id) ∙ found-fires _ k (hasId chambers id) found h))
+          ∙ ap₂ (λ (cs : List Check) (o : Outcome). inOrder cs (refused chambers store) o)
+          (ap₂ (λ (x : TargetBin) (p : List ℕ). pushChecks x p box) bin-is (sym (lent-part store k ∙ ap (partAt store) here)))
+          (ap₂ (λ (i : ℕ) (x : TargetBin). stored chambers store i (x .count) box) (sym here) bin-is)
+
+      module _ (ys : List ℕ) (answer : Reply) (long : length ys ≡ length L)
+          (replied : answer ≡ inOrder (pushChecks b L box) (λ a. a) (reply 0 (b .count)))
+          (left : ys ≡ inOrder (pushChecks b L box) (λ a. L) (put L (b .count * 6) (wordsOf box))) where
+        whole : length ys ≡ 768
+        whole = long ∙ ap length (lent-part store k) ∙ length-partAt store k room
+
+        pub return-refused : (answer .number ≡ 0 → ⊥) → outcome answer chambers (putMid (k * 768) (k * 768 + 768 - k * 768) store ys) ≡ decided
+        return-refused ne =
+            let ne′ : answerOf (pushChecks b L box) (reply 0 (b .count)) .number ≡ 0 → ⊥ = λ z. ne (ap (λ (r : Reply). r .number) replied ∙ z) in
+            let same : ys ≡ L = left ∙ alone-fires (λ a. L) (put L (b .count * 6) (wordsOf box)) (reply 0 (b .count)) (pushChecks b L box) refl ne′ in
+            let w : putMid (k * 768) (k * 768 + 768 - k * 768) store ys ≡ store =
+            came-back store ys k whole ∙ ap (put store (k * 768)) same ∙ put-back store (k * 768) (k * 768 + 768 - k * 768) (omega arith) in
+            ap₂ (λ (r : Reply) (s : List ℕ). outcome r chambers s) replied w
+            ∙ sym (past8 ∙ alone-fires (refused chambers store) (stored chambers store k (b .count) box) (reply 0 (b .count)) (pushChecks b L box) refl ne′)
+
+        pub return-accepted : (after : List ℕ) → answer .number ≡ 0 → b .count < 128 → after ≡ set chambers (k * 5 + 4) (b .count + 1) → outcome answer after (putMid (k * 768) (k * 768 + 768 - k * 768) store ys) ≡ decided
+        return-accepted after z small counted =
+            let z′ : answerOf (pushChecks b L box) (reply 0 (b .count)) .number ≡ 0 = sym (ap (λ (r : Reply). r .number) replied) ∙ z in
+            let n : Numbered (pushChecks b L box) = push-numbered b L box in
+            let said : answer ≡ reply 0 (b .count) = replied ∙ alone-passes (λ a. a) (reply 0 (b .count)) (reply 0 (b .count)) (pushChecks b L box) n z′ in
+            let wrote : ys ≡ put L (b .count * 6) (wordsOf box) =
+            left ∙ alone-passes (λ a. L) (put L (b .count * 6) (wordsOf box)) (reply 0 (b .count)) (pushChecks b L box) n z′ in
+            let w : putMid (k * 768) (k * 768 + 768 - k * 768) store ys ≡ put store (k * 768 + b .count * 6) (wordsOf box) =
+            came-back store ys k whole
+            ∙ ap (put store (k * 768)) wrote
+            ∙ put-in-part store (k * 768) (k * 768 + 768 - k * 768) (omega arith) (b .count * 6) (wordsOf box) (omega arith) in
+            let o : outcome answer after (putMid (k * 768) (k * 768 + 768 - k * 768) store ys) ≡ stored chambers store k (b .count) box =
+            ap₂ (λ (r : Reply) (s : List ℕ). outcome r after s) said w
+            ∙ ap (λ (c : List ℕ). outcome (reply 0 (b .count)) c (put store (k * 768 + b .count * 6) (wordsOf box))) counted in
+            o
+            ∙ sym (past8 ∙ alone-passes (refused chambers store) (stored chambers store k (b .count) box) (reply 0 (b .count)) (pushChecks b L box) n z′)
+
+        -- an accepted return found room
+        pub return-room : answer .number ≡ 0 → b .count ≤ 128 → b .count < 128
+        unfolding pushChecks
+        return-room z most =
+            let z′ : answerOf (pushChecks b L box) (reply 0 (b .count)) .number ≡ 0 = sym (ap (λ (r : Reply). r .number) replied) ∙ z in
+            let c9 = once 9 (not (insideOf (b .whd) box)) in
+            let c10 = each 10 (b .count) (sharesAt box L) in
+            let c11 = once 11 (eqb (b .count) 128) in
+            let n11 : Numbered (c11 ∷ []) = more (λ (e : _≡_ {A = ℕ} 11 0). omega arith) none in
+            let n10 : Numbered (c10 ∷ c11 ∷ []) = more (λ (e : _≡_ {A = ℕ} 10 0). omega arith) n11 in
+            let n9 : Numbered (c9 ∷ c10 ∷ c11 ∷ []) = more (λ (e : _≡_ {A = ℕ} 9 0). omega arith) n10 in
+            let r = reply 0 (b .count) in
+            let full : eqb (b .count) 128 ≡ false =
+            first-passes c11 [] r n11 (rest-passes c10 (c11 ∷ []) r n10 (rest-passes c9 (c10 ∷ c11 ∷ []) r n9 z′)) in
+            let ne : b .count ≡ 128 → ⊥ = eqb-false (b .count) 128 full in
+            omega arith
+
+  -- ---- checks 1 to 3 before them
+
+  module _ (t : Reply) (tables : t ≡ answerOf (tableChecks chambers store) (reply 0 0)) where
+    pub return-tables : (t .number ≡ 0 → ⊥) → outcome t chambers store ≡ returnOf chambers store id box
+    unfolding returnOf
+    return-tables ne =
+        ap (refused chambers store) tables
+        ∙ sym (row-fires (refused chambers store) (returned chambers store id box) (reply 0 0) (tableChecks chambers store) (returnChecks chambers store id box) refl
+        (λ z. ne (ap (λ (r : Reply). r .number) tables ∙ z)))
+
+    pub return-past : t .number ≡ 0 → decided ≡ returnOf chambers store id box
+    unfolding returnOf
+    return-past z =
+        sym (row-passes (refused chambers store) (returned chambers store id box) (reply 0 0) (tableChecks chambers store) (returnChecks chambers store id box)
+        (numbered chambers store) (sym (ap (λ (r : Reply). r .number) tables) ∙ z))

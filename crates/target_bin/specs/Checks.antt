@@ -1,0 +1,74 @@
+-- Checks 1, 2 and 3, which every job on the tables makes first.
+use Prim.Native.Nat.{ℕ, zero, suc, _*_, _%_, _≤_, _<_}
+use mathlib.Core.Path.{_≡_}
+use mathlib.Core.List.{List, [], _∷_}
+use mathlib.Core.Bool.{Bool, true, _&&_, not}
+use lib.ListN.{length}
+use lib.Dec.{ltb, leb, eqb}
+use Rattle.lists.specs.Lowest.{anyBelow}
+use Rattle.bin_section.specs.Sides.{sidesOk}
+use Rattle.bin_section.specs.Replies.{Check, once, each}
+use Rattle.sections.specs.Inside.{outsideAt}
+use Rattle.target_bin.specs.Chambers.{chamberAt, chamberCount}
+use Rattle.target_bin.specs.Store.{partAt}
+
+-- 1: "Chamber record, 5 words", "At most 16", "Store: exactly 768 words a chamber"
+unfoldable pub lengthsOk : List ℕ → List ℕ → Bool
+lengthsOk chambers store =
+    eqb (length chambers % 5) 0
+    && (leb (chamberCount chambers) 16 && eqb (length store) (chamberCount chambers * 768))
+
+-- 2: not "chamber id not above its predecessor"; the first has none
+unfoldable pub idOk : List ℕ → ℕ → Bool
+idOk chambers zero = true
+idOk chambers (suc i) = ltb (chamberAt chambers i .id) (chamberAt chambers (suc i) .id)
+
+-- 2 with "old counts ignored": nor "side 0 or above 65,535"
+unfoldable pub shapeOk : List ℕ → ℕ → Bool
+shapeOk chambers i = idOk chambers i && sidesOk (chamberAt chambers i .whd)
+
+-- 2: nor "count above 128"
+unfoldable pub chamberOk : List ℕ → ℕ → Bool
+chamberOk chambers i = shapeOk chambers i && leb (chamberAt chambers i .count) 128
+
+abbrev pub badShape : List ℕ → ℕ → Bool
+badShape chambers i = not (shapeOk chambers i)
+
+abbrev pub badChamber : List ℕ → ℕ → Bool
+badChamber chambers i = not (chamberOk chambers i)
+
+-- 3: "a counted section has a zero side or reaches past its chamber"
+unfoldable pub badSections : List ℕ → List ℕ → ℕ → Bool
+badSections chambers store i =
+    anyBelow (chamberAt chambers i .count) (outsideAt (chamberAt chambers i .whd) (partAt store i))
+
+-- 8: the chamber at an index "has the id"
+abbrev pub hasId : List ℕ → ℕ → ℕ → Bool
+hasId chambers id i = eqb (chamberAt chambers i .id) id
+
+abbrev pub check1 : List ℕ → List ℕ → Check
+check1 chambers store = once 1 (not (lengthsOk chambers store))
+
+-- "2 (old counts ignored)"
+abbrev pub check2Fresh : List ℕ → Check
+check2Fresh chambers = each 2 (chamberCount chambers) (badShape chambers)
+
+abbrev pub check2 : List ℕ → Check
+check2 chambers = each 2 (chamberCount chambers) (badChamber chambers)
+
+abbrev pub check3 : List ℕ → List ℕ → Check
+check3 chambers store = each 3 (chamberCount chambers) (badSections chambers store)
+
+abbrev pub tableChecks : List ℕ → List ℕ → List Check
+tableChecks chambers store = check1 chambers store ∷ check2 chambers ∷ check3 chambers store ∷ []
+
+-- no count is above 128
+pub record Counted (chambers : List ℕ) : Type 0 where
+  pub counts : (i : ℕ) → i < chamberCount chambers → chamberAt chambers i .count ≤ 128
+
+-- what the code leans on once checks 1 and 2 have passed
+pub record Shaped (chambers store : List ℕ) : Type 0 where
+  pub few : chamberCount chambers ≤ 16
+  pub whole : length chambers ≡ chamberCount chambers * 5
+  pub long : length store ≡ chamberCount chambers * 768
+  pub counted : Counted chambers

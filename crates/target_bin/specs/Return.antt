@@ -1,0 +1,47 @@
+-- The return of a section.
+use Prim.Native.Nat.{ℕ, _+_, _*_}
+use mathlib.Core.List.{List, [], _∷_, _++_}
+use mathlib.Core.Bool.{not}
+use lib.ListN.{set}
+use lib.Dec.{eqb}
+use Rattle.lists.specs.Lowest.{lowest, anyBelow}
+use Rattle.lists.specs.Tab.{put}
+use Rattle.bin_section.specs.declared.section.BinSection.{BinSection}
+use Rattle.bin_section.specs.Section.{wordsOf}
+use Rattle.bin_section.specs.Replies.{Check, reply, once, each, inOrder}
+use Rattle.sections.specs.Inside.{insideOf, sharesAt}
+use Rattle.target_bin.specs.declared.chamber.TargetBin.{TargetBin}
+use Rattle.target_bin.specs.Chambers.{chamberAt, chamberCount}
+use Rattle.target_bin.specs.Store.{partAt}
+use Rattle.target_bin.specs.Checks.{hasId, tableChecks}
+use Rattle.target_bin.specs.Outcome.{Outcome, outcome, refused}
+
+-- the index of the chamber that has the id
+unfoldable pub chamberOf : List ℕ → ℕ → ℕ
+chamberOf chambers id = lowest (chamberCount chambers) (hasId chambers id)
+
+-- 9: "box has a zero side or reaches past the chamber"; 10: "a free section shares a cell with the box"; 11: "128 sections are there"
+unfoldable pub pushChecks : TargetBin → List ℕ → BinSection → List Check
+pushChecks b part box =
+    once 9 (not (insideOf (b .whd) box)) ∷ each 10 (b .count) (sharesAt box part) ∷ once 11 (eqb (b .count) 128) ∷ []
+
+-- 8: "no chamber has the id"; then 9, 10, 11 for the chamber that has it
+unfoldable pub returnChecks : List ℕ → List ℕ → ℕ → BinSection → List Check
+returnChecks chambers store id box =
+    once 8 (not (anyBelow (chamberCount chambers) (hasId chambers id)))
+    ∷ pushChecks (chamberAt chambers (chamberOf chambers id)) (partAt store (chamberOf chambers id)) box
+
+-- "An accepted return writes one count and the six words after the last section, nothing else", at chamber k of count n
+abbrev pub stored : List ℕ → List ℕ → ℕ → ℕ → BinSection → Outcome
+stored chambers store k n box =
+    outcome (reply 0 n) (set chambers (k * 5 + 4) (n + 1)) (put store (k * 768 + n * 6) (wordsOf box))
+
+unfoldable pub returned : List ℕ → List ℕ → ℕ → BinSection → Outcome
+returned chambers store id box =
+    stored chambers store (chamberOf chambers id) (chamberAt chambers (chamberOf chambers id) .count) box
+
+-- "Return: 1, 2, 3, 8, 9, 10, 11."
+unfoldable pub returnOf : List ℕ → List ℕ → ℕ → BinSection → Outcome
+returnOf chambers store id box =
+    inOrder (tableChecks chambers store ++ returnChecks chambers store id box) (refused chambers store)
+    (returned chambers store id box)

@@ -1,0 +1,35 @@
+// A section put back among the free sections of one chamber.
+ghost use mathlib.Core.Path.{_≡_};
+ghost use Prim.Native.Nat.{_+_, _*_, _≤_};
+ghost use lib.ListN.{length};
+ghost use Rattle.lists.specs.Tab.{put};
+ghost use Rattle.bin_section.specs.Section.{wordsOf};
+ghost use Rattle.bin_section.specs.Replies.{reply, inOrder};
+ghost use Rattle.target_bin.specs.Return.{pushChecks};
+use crate::chamber::TargetBin;
+use bin_section::BinSection;
+use bin_section::Reply;
+use sections::append_section;
+use sections::first_sharing;
+use sections::inside;
+
+// Checks 9, 10 and 11, then the append. The Rust tests the origin alone, and overlap one way; its comments decide.
+pub fn push_available_bin_section(part: &mut [u32], bin: TargetBin, section: BinSection) -> Reply
+    requires { ⌜ (length (now part) ≡ 768) × (bin .count ≤ 128) ⌝ }
+    ensures { λ r. ⌜ r ≡ inOrder (pushChecks bin (now (part .entry)) section) (λ a. a) (reply 0 (bin .count)) ⌝ }
+    ensures { λ _. ⌜ now (part .exit) ≡ inOrder (pushChecks bin (now (part .entry)) section) (λ _. now (part .entry)) (put (now (part .entry)) (bin .count * 6) (wordsOf section)) ⌝ }
+{
+    if !inside(section, bin.whd) {
+        return Reply::new(9, 0);
+    }
+    let count = bin.count as usize;
+    let shared = first_sharing(part, count, section);
+    if shared < count {
+        return Reply::new(10, shared as u32);
+    }
+    if bin.count == TargetBin::SECTIONS {
+        return Reply::new(11, 0);
+    }
+    append_section(part, count, section);
+    Reply::new(0, bin.count)
+}

@@ -1,0 +1,48 @@
+// The return of a section.
+ghost use mathlib.Core.Path.{_≡_};
+ghost use Rattle.bin_section.specs.Replies.{inOrder};
+ghost use Rattle.target_bin.specs.Checks.{Shaped};
+ghost use Rattle.target_bin.specs.Outcome.{outcome, refused};
+ghost use Rattle.target_bin.specs.Return.{returnChecks, returned, returnOf};
+use crate::chamber::TargetBin;
+use crate::checks::check_tables;
+use crate::checks::find_chamber;
+use crate::push_available_bin_section::push_available_bin_section;
+use bin_section::BinSection;
+use bin_section::Reply;
+
+// "Return: 1, 2, 3, 8, 9, 10, 11."
+pub fn return_section(
+    chambers: &mut [u32],
+    store: &mut [u32],
+    id: u32,
+    section: BinSection,
+) -> Reply
+    ensures { λ r. ⌜ outcome r (now (chambers .exit)) (now (store .exit)) ≡ returnOf (now (chambers .entry)) (now (store .entry)) id section ⌝ }
+{
+    let tables = check_tables(chambers, store);
+    if tables.number != 0 {
+        return tables;
+    }
+    return_to(chambers, store, id, section)
+}
+
+// Checks 8 to 11, and what an accepted return writes.
+fn return_to(chambers: &mut [u32], store: &mut [u32], id: u32, section: BinSection) -> Reply
+    requires { ⌜ Shaped (now chambers) (now store) ⌝ }
+    ensures { λ r. ⌜ outcome r (now (chambers .exit)) (now (store .exit)) ≡ inOrder (returnChecks (now (chambers .entry)) (now (store .entry)) id section) (refused (now (chambers .entry)) (now (store .entry))) (returned (now (chambers .entry)) (now (store .entry)) id section) ⌝ }
+{
+    let k = find_chamber(chambers, id);
+    if chambers.len() / TargetBin::WORDS <= k {
+        return Reply::new(8, 0);
+    }
+    let bin = TargetBin::read(chambers, k);
+    let start = k * TargetBin::STORE;
+    let end = start + TargetBin::STORE;
+    let answer = push_available_bin_section(&mut store[start..end], bin, section);
+    if answer.number != 0 {
+        return answer;
+    }
+    TargetBin::write_count(chambers, k, bin.count + 1);
+    answer
+}
