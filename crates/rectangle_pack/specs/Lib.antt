@@ -1,0 +1,4 @@
+pub mod Order
+pub mod Seats
+pub mod Packing
+pub mod Pack

@@ -1,0 +1,1 @@
+// Pack: groups of rectangles into chambers.
