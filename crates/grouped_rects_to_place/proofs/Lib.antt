@@ -1,2 +1,3 @@
 pub mod Grouping
 pub mod Ordering
+pub mod Passed
