@@ -1,15 +1,15 @@
 -- What the test `insideOf` means, and that some entry is faulty exactly when the lowest faulty one is below the number of entries.
 use Prim.Native.Nat.{ℕ, _+_, _≤_, _<_}
-use mathlib.Core.Path.{_≡_, refl, sym, ap, _∙_}
+use mathlib.Core.Path.{_≡_, refl, sym, _∙_}
 use mathlib.Core.Logic.{_↔_}
-use mathlib.Core.Bool.{Bool, true, false, _&&_, not}
+use mathlib.Core.Bool.{Bool, true, false, _&&_}
 use native.Mathlib.Decide.{decLt}
 use native.Mathlib.Omega.{arith}
 use borrow.Author.Tests.{ltb-true, leb-true, lt-ltb, le-ltb, le-leb}
 use lib.Dec.{ltb, leb}
 use Rattle.lists.specs.Lowest.{lowest, anyBelow}
 use Rattle.lists.proofs.Flags.{and-both, and-first, and-second, true-false}
-use Rattle.lists.proofs.Lowests.{none-of-lowest, none-any, any-none, lowest-fires, lowest-most}
+use Rattle.lists.proofs.Lowests.{none-of-lowest, none-any, any-none, lowest-fires}
 use Rattle.bin_section.specs.declared.section.BinSection.{BinSection}
 use Rattle.bin_section.specs.declared.width_height_depth.WidthHeightDepth.{WidthHeightDepth}
 use Rattle.sections.specs.Inside.{spanInside, insideOf}

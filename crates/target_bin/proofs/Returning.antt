@@ -1,13 +1,13 @@
 -- Laws of a return: which case its checks lead to, and what an accepted one writes.
-use Prim.Native.Nat.{ℕ, zero, suc, _+_, _*_, _-_, _≤_, _<_}
+use Prim.Native.Nat.{ℕ, _+_, _*_, _-_, _≤_, _<_}
 use mathlib.Core.Path.{_≡_, refl, sym, ap, ap₂, _∙_}
-use mathlib.Core.List.{List, [], _∷_, _++_}
-use mathlib.Core.Bool.{Bool, true, false, not}
+use mathlib.Core.List.{List, [], _∷_}
+use mathlib.Core.Bool.{true, false, not}
 use native.Mathlib.Omega.{arith}
 use native.Mathlib.Decide.{decLt}
 use borrow.Rule.Slice.PartMut.{putMid}
 use borrow.Author.Tests.{eqb-false, eq-eqb, ne-eqb}
-use lib.ListN.{length, getD, take, drop, set, length-set, length-take, length-drop}
+use lib.ListN.{length, getD, take, drop, set, length-take, length-drop}
 use lib.Seq.{ext-getD, getD-take, getD-drop}
 use lib.Dec.{eqb}
 use Rattle.lists.specs.Lowest.{lowest, anyBelow}
@@ -27,7 +27,8 @@ use Rattle.target_bin.specs.Checks.{hasId, tableChecks}
 use Rattle.target_bin.specs.Outcome.{Outcome, outcome, refused}
 use Rattle.target_bin.proofs.Ordering.{fires, passes, all-done, Numbered, none, more, answerOf, first-passes, rest-passes, row-passes, row-fires, alone-passes, alone-fires}
 use Rattle.target_bin.proofs.Parts.{lent-part, came-back, length-partAt}
-use Rattle.target_bin.proofs.Passing.{found-fires, found-passes, numbered}
+use Rattle.target_bin.proofs.Checking.{found-fires, found-passes}
+use Rattle.target_bin.proofs.Passing.{numbered}
 
 -- ---- checks 9, 10 and 11
 
@@ -241,8 +242,9 @@ module _ (chambers store : List ℕ) (id : ℕ) (box : BinSection) where
         ∙ sym (row-fires (refused chambers store) (returned chambers store id box) (reply 0 0) (tableChecks chambers store) (returnChecks chambers store id box) refl
         (λ z. ne (ap (λ (r : Reply). r .number) tables ∙ z)))
 
-    pub return-past : t .number ≡ 0 → decided ≡ returnOf chambers store id box
+    pub return-past : (o : Outcome) → o ≡ decided → t .number ≡ 0 → o ≡ returnOf chambers store id box
     unfolding returnOf
-    return-past z =
-        sym (row-passes (refused chambers store) (returned chambers store id box) (reply 0 0) (tableChecks chambers store) (returnChecks chambers store id box)
+    return-past o e z =
+        e
+        ∙ sym (row-passes (refused chambers store) (returned chambers store id box) (reply 0 0) (tableChecks chambers store) (returnChecks chambers store id box)
         (numbered chambers store) (sym (ap (λ (r : Reply). r .number) tables) ∙ z))

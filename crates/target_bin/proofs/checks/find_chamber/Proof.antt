@@ -1,12 +1,10 @@
-use Prim.Native.Nat.{ℕ, _≤_, _/_, _-_}
+use Prim.Native.Nat.{_≤_, _-_}
 use mathlib.Core.Path.{_≡_, sym, ap, _∙_}
-use mathlib.Core.List.{List}
-use lib.ListN.{length}
 use borrow.Author.Needs.{needs}
 use borrow.Author.Tests.{eq-eqb, ne-eqb}
 use Rattle.lists.proofs.Lowests.{None, none-zero, none-more, lowest-here, lowest-end}
 use Rattle.target_bin.specs.declared.chamber.TargetBin.{TargetBin}
-use Rattle.target_bin.specs.Chambers.{chamberAt, chamberCount}
+use Rattle.target_bin.specs.Chambers.{chamberCount}
 use Rattle.target_bin.specs.Checks.{hasId}
 use Rattle.target_bin.proofs.checks.find_chamber.Statement.{statement}
 use Rattle.target_bin.proofs.checks.find_chamber.Tie as tie
