@@ -31,7 +31,7 @@ use Rattle.placing.specs.Rules.{placeFrom, placeOne, placeAll, placeGroup}
 use Rattle.rectangle_pack.specs.Order as order
 use Rattle.rectangle_pack.specs.Seats.{seated}
 use Rattle.rectangle_pack.specs.Packing.{rectsAt, trialIn, firstWhole, changed, packGroups}
-use Rattle.rectangle_pack.specs.Pack.{rectLengthsOk, noRoom, packChecks, start, packing, binsWith, written, packOf}
+use Rattle.rectangle_pack.specs.Pack.{rectLengthsOk, noRoom, rectChecks, packChecks, start, packing, binsWith, written, packOf}
 use Rattle.examples.specs.Job.{Job, tries, returns, packs, replies, Outcome, tried, packed, answered}
 
 pub record Example : Type 0 where
@@ -139,6 +139,6 @@ unfolding lowest anyBelow picked sumTo tab removeAt put
     chamberOf pushChecks returnChecks returned returnOf
     rectAt badRect repeatedId sameGroup leadOf isLead share groupVolume keyWith comesBefore earlier groupOrder groupsOf
     placeFrom placeOne placeAll placeGroup order.goesBefore order.tried order.trialOrder seated
-    rectsAt trialIn firstWhole changed packGroups rectLengthsOk noRoom packChecks start packing binsWith written packOf
+    rectsAt trialIn firstWhole changed packGroups rectLengthsOk noRoom rectChecks packChecks start packing binsWith written packOf
     coils packed table answered tried tryOf fitOf spanOk sideOk sixSplits chosen ranksOf bestOf bestFrom laterOf betterOf appendedOf larger keptOne kept insertBy insertAll
 examples-hold = refl

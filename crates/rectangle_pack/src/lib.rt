@@ -1,1 +1,4 @@
 // Pack: groups of rectangles into chambers.
+mod order;
+mod placements;
+mod trial;

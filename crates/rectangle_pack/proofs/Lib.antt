@@ -1,0 +1,3 @@
+pub mod Orders
+pub mod Tables
+pub mod Trials
