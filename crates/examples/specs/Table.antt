@@ -20,10 +20,10 @@ use Rattle.bin_section.specs.Overlap.{spansMeet, overlapsOf}
 use Rattle.bin_section.specs.Replies.{inOrder}
 use Rattle.sections.specs.Sections.{sections, joined}
 use Rattle.sections.specs.Inside.{spanInside, insideOf}
-use Rattle.target_bin.specs.Chambers.{chamberAt}
+use Rattle.target_bin.specs.Chambers.{chamberAt, chamberOf}
 use Rattle.target_bin.specs.Checks.{lengthsOk, idOk, shapeOk, chamberOk, badSections}
 use Rattle.target_bin.specs.Store.{partAt, freeAt, freeOf, partOf, storeOf}
-use Rattle.target_bin.specs.Return.{chamberOf, pushChecks, returnChecks, returned, returnOf}
+use Rattle.target_bin.specs.Return.{pushChecks, returnChecks, returned, returnOf}
 use Rattle.grouped_rects_to_place.specs.Rect.{rectAt}
 use Rattle.grouped_rects_to_place.specs.Checks.{badRect, repeatedId}
 use Rattle.grouped_rects_to_place.specs.Groups.{sameGroup, leadOf, isLead, share, groupVolume, keyWith, comesBefore, earlier, groupOrder, groupsOf}
