@@ -1,3 +1,4 @@
 pub mod Orders
+pub mod Serving
 pub mod Tables
 pub mod Trials
