@@ -1,3 +1,4 @@
 pub mod Grouping
 pub mod Ordering
 pub mod Passed
+pub mod Sizes
