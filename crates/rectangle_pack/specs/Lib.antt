@@ -2,3 +2,4 @@ pub mod Order
 pub mod Seats
 pub mod Packing
 pub mod Pack
+pub mod Promises
