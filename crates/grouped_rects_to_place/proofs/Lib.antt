@@ -2,3 +2,4 @@ pub mod Checking
 pub mod Grouping
 pub mod Ordering
 pub mod Parting
+pub mod Sizes

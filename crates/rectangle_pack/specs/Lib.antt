@@ -3,3 +3,4 @@ pub mod Seats
 pub mod Packing
 pub mod Pack
 pub mod Leaning
+pub mod Promises
