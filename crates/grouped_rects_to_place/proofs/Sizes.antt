@@ -301,6 +301,29 @@ module _ (n : ℕ) (r : ℕ → RectToPlace) where
       each-mapped none = none
       each-mapped (also {x} p ps) = also (x, group-of x (p .0) (p .1)) (each-mapped ps)
 
+  -- an ungrouped rectangle is a group of its own
+  pub ungrouped-alone : (i : ℕ) → i < n → r i .group ≡ 0 → members n r i ≡ i ∷ []
+  ungrouped-alone i h z =
+      let f : (rest : List ℕ) × (members n r i ≡ i ∷ rest) = pick-first n i (sameGroup r i) before h (same-said r i i (inl refl)) in
+      f .1
+      ∙ ap (λ (l : List ℕ). i ∷ l)
+      (only-one (f .0) (rw (f .1) at (each-map (λ j p. itself j (p .1)) (pick-each n (sameGroup r i))))
+      (rw (f .1) at (pick-rising n (sameGroup r i))))
+    where
+      itself-by : (j : ℕ) → (i ≡ j) ⊎ ((0 < r i .group) × (r i .group ≡ r j .group)) → i ≡ j
+      itself-by j (inl e) = e
+      itself-by j (inr (p, q)) = absurd (omega arith)
+
+      itself : (j : ℕ) → sameGroup r i j ≡ true → i ≡ j
+      itself j e = itself-by j (same-says r i j e)
+
+      before : None i (sameGroup r i)
+      before = record { at = λ j l. false-of r (sameGroup r i j) (λ e. let q : i ≡ j = itself j e in omega arith) }
+
+      only-one : (rest : List ℕ) → Each (λ j. i ≡ j) (i ∷ rest) → EachTwo (λ a b. a < b) (i ∷ rest) → rest ≡ []
+      only-one [] p q = refl
+      only-one (y ∷ ys) (also p (also e es)) (also-two (also l ls) q) = absurd (omega arith)
+
 -- no index stands in both
 pub record Disjoint (g h : List ℕ) : Type 0 where
   pub apart : Each (λ i. Each (λ j. i ≡ j → ⊥) h) g

@@ -1,3 +1,6 @@
 pub mod Placings
 pub mod Room
 pub mod Left
+pub mod Planner
+pub mod Seating
+pub mod Trials
