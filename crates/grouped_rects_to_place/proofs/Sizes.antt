@@ -1,5 +1,5 @@
 -- The groups share out the rectangles: each stands in one group, once, so the sizes of the groups add up to their number.
-use Prim.Native.Nat.{ℕ, zero, suc, _+_, _*_, _≤_, _<_}
+use Prim.Native.Nat.{ℕ, zero, suc, _+_, _≤_, _<_}
 use mathlib.Core.Path.{_≡_, refl, sym, ap, ap₂, _∙_, subst}
 use mathlib.Core.Logic.{_⊎_, inl, inr}
 use mathlib.Core.List.{List, [], _∷_, _++_, map}
@@ -117,7 +117,7 @@ pick-first (suc n) i f p h e = at (eq-or-lt-of-le (le-of-suc-le-suc h)) (pick-fi
 
 module _ (r : ℕ → RectToPlace) where
   -- what the test says
-  abbrev Same : ℕ → ℕ → Type 0
+  abbrev pub Same : ℕ → ℕ → Type 0
   Same i j = (i ≡ j) ⊎ ((0 < r i .group) × (r i .group ≡ r j .group))
 
   pub same-says : (i j : ℕ) → sameGroup r i j ≡ true → Same i j

@@ -1,16 +1,15 @@
 -- What is left free ends where the old sections did: each section stays inside its chamber, and none has a zero side.
-use Prim.Native.Nat.{ℕ, zero, suc, _+_, _*_, _≤_, _<_}
-use mathlib.Core.Path.{_≡_, refl, sym, ap, _∙_}
+use Prim.Native.Nat.{ℕ, _*_, _<_}
+use mathlib.Core.Path.{_≡_, refl, ap, _∙_}
 use mathlib.Core.Logic.{_⊎_, inl, inr}
-use mathlib.Core.List.{List, [], _∷_, _++_}
+use mathlib.Core.List.{List, [], _∷_}
 use mathlib.Core.Bool.{Bool, true, false, cond}
 use native.Mathlib.Nat.{eq-zero-or-pos, zero-mul, mul-zero}
 use native.Mathlib.Omega.{arith}
 use borrow.Author.Tests.{eqb-false}
 use lib.Dec.{ltb, eqb}
 use lib.ListN.{length, getD, set, length-set}
-use Rattle.lists.specs.Tab.{removeAt}
-use Rattle.lists.specs.Sort.{sortBy, Each, none, also}
+use Rattle.lists.specs.Sort.{Each, none, also}
 use Rattle.lists.proofs.Tabs.{getD-tab}
 use Rattle.lists.proofs.Sorts.{each-map, each-append, each-at, sort-each}
 use Rattle.bin_section.specs.declared.section.BinSection.{BinSection}
@@ -20,14 +19,14 @@ use Rattle.bin_section.specs.Section.{sectionAt, zeroSection}
 use Rattle.bin_section.specs.Sides.{volumeOf, Small}
 use Rattle.bin_section.specs.Replies.{reply}
 use Rattle.sections.specs.Sections.{sections}
-use Rattle.sections.proofs.Bounding.{SpanInside, Inside}
+use Rattle.sections.proofs.Bounding.{Inside}
 use Rattle.try_place.specs.declared.packed_location.PackedLocation.{PackedLocation}
 use Rattle.try_place.specs.declared.Placement.the-variants.{Placed}
 use Rattle.try_place.specs.declared.Tried.{Tried}
 use Rattle.try_place.specs.Try.{Reachable, fitOf}
 use Rattle.try_place.specs.Appended.{larger, keptOne, kept, appendedOf}
 use Rattle.try_place.proofs.Remaining.{Within, ThreeWithin, within-reachable, placed-within, placed-three}
-use Rattle.placing.specs.Rules.{One, placed, placeOne, Trial, stops, whole, placeGroup}
+use Rattle.placing.specs.Rules.{placed, placeOne, Trial, stops, whole, placeGroup}
 use Rattle.placing.proofs.Reaches.{each-tab, each-remove, three}
 use Rattle.grouped_rects_to_place.specs.declared.rect_to_place.RectToPlace.{RectToPlace}
 use Rattle.grouped_rects_to_place.specs.Rect.{rectAt}

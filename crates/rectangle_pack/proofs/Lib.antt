@@ -4,3 +4,4 @@ pub mod Left
 pub mod Planner
 pub mod Seating
 pub mod Trials
+pub mod Boxes

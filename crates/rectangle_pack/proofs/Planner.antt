@@ -1,18 +1,17 @@
 -- A turn of the packing, the refused group, an ungrouped rectangle, and a placed box: what a planner may rely on.
-use Prim.Native.Nat.{ℕ, zero, suc, _+_, _≤_, _<_}
+use Prim.Native.Nat.{ℕ, _≤_, _<_}
 use mathlib.Core.Path.{_≡_, refl, sym, ap, _∙_}
 use mathlib.Core.Logic.{_⊎_, inl, inr, _↔_}
 use mathlib.Core.List.{List, [], _∷_, _++_}
-use mathlib.Core.Bool.{Bool, true, false, cond}
+use mathlib.Core.Bool.{Bool, true, false}
 use native.Mathlib.Omega.{arith}
 use native.Mathlib.Decide.{decLt}
 use borrow.Author.Tests.{lt-ltb, le-ltb}
-use lib.Dec.{ltb}
 use lib.ListN.{length, getD}
 use Rattle.lists.specs.Lowest.{lowest}
-use Rattle.lists.specs.Sort.{Each, none, also}
-use Rattle.lists.proofs.Flags.{true-false, cond-yes, cond-no}
-use Rattle.lists.proofs.Lowests.{None, lowest-none, lowest-here, lowest-fires, none-below-lowest, none-of-lowest}
+use Rattle.lists.specs.Sort.{Each, also}
+use Rattle.lists.proofs.Flags.{true-false}
+use Rattle.lists.proofs.Lowests.{lowest-none, lowest-here, lowest-fires, none-below-lowest, none-of-lowest}
 use Rattle.bin_section.specs.declared.section.BinSection.{BinSection}
 use Rattle.bin_section.specs.declared.rect_to_insert.RectToInsert.{RectToInsert}
 use Rattle.bin_section.specs.declared.reply.Reply.{Reply}
@@ -30,7 +29,7 @@ use Rattle.rectangle_pack.specs.Order.{trialOrder}
 use Rattle.rectangle_pack.specs.Packing.{State, rectsAt, trialIn, isWhole, firstWhole, changed, Ended, ended, packGroups}
 use Rattle.rectangle_pack.specs.Pack.{rectCount, start, packing}
 use Rattle.rectangle_pack.specs.Promises.{Fits, NoSectionFits, Serves, NoneServes, RefusedAt, boxAt}
-use Rattle.rectangle_pack.proofs.Placings.{PlacedAt, NoneFits, placed-at, nowhere-at}
+use Rattle.rectangle_pack.proofs.Placings.{PlacedAt, placed-at, nowhere-at}
 
 -- ---- a turn
 

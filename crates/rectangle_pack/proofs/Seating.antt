@@ -1,16 +1,15 @@
 -- A group is whole in one chamber or nowhere.
-use Prim.Native.Nat.{ℕ, zero, suc, _+_, _≤_, _<_}
+use Prim.Native.Nat.{ℕ, _<_}
 use mathlib.Core.Path.{_≡_, refl, sym, ap, _∙_}
 use mathlib.Core.Logic.{_⊎_, inl, inr}
-use mathlib.Core.List.{List, [], _∷_, _++_}
-use mathlib.Core.Bool.{Bool, true, false}
+use mathlib.Core.List.{List, [], _∷_}
+use mathlib.Core.Bool.{true}
 use native.Mathlib.Omega.{arith}
 use lib.ListN.{length, getD, set, replicate, length-set, length-replicate, getD-replicate}
 use lib.Seq.{getD-set-same, getD-set-other}
 use Rattle.lists.specs.Sort.{Each, none, also, EachTwo, no-two, also-two}
 use Rattle.lists.proofs.Flags.{true-false}
 use Rattle.lists.proofs.Sorts.{each-map, each-both}
-use Rattle.bin_section.specs.declared.section.BinSection.{BinSection}
 use Rattle.try_place.specs.declared.packed_location.PackedLocation.{PackedLocation}
 use Rattle.placing.specs.Rules.{Trial, stops, whole, placeGroup}
 use Rattle.target_bin.specs.Chambers.{chamberAt}

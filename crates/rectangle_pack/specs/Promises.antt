@@ -1,4 +1,4 @@
--- What a planner and a statistician may rely on, whatever is packed. Laws: proofs/Planner.antt, proofs/Seating.antt.
+-- What a planner and a statistician may rely on, whatever is packed. Laws: proofs/Planner.antt, proofs/Seating.antt, proofs/Boxes.antt.
 use Prim.Native.Nat.{ℕ, _≤_, _<_}
 use mathlib.Core.Path.{_≡_}
 use mathlib.Core.List.{List, [], _∷_, _++_}
@@ -51,3 +51,7 @@ boxAt l = section (l .x) (l .y) (l .z) (l .whd)
 pub data WholeOrNowhere (order : List ℕ) (ids : ℕ → ℕ) (seats : List Seat) (group : List ℕ) : Type 0 where
   in-one : (t : ℕ) → t < length order → Each (λ i. (l : PackedLocation) × (getD seats i unplaced ≡ seat (ids (getD order t 0)) l)) group → WholeOrNowhere order ids seats group
   in-none : Each (λ i. getD seats i unplaced ≡ unplaced) group → WholeOrNowhere order ids seats group
+
+-- every placed box is as P says of a chamber, one of n, whose id stands in its record
+pub record BoxesAre (n : ℕ) (ids : ℕ → ℕ) (P : ℕ → BinSection → Type 0) (seats : List Seat) : Type 0 where
+  pub at : (i id : ℕ) (l : PackedLocation) → getD seats i unplaced ≡ seat id l → (k : ℕ) × (k < n) × (id ≡ ids k) × P k (boxAt l)
