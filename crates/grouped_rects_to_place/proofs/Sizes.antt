@@ -1,5 +1,5 @@
 -- The groups share out the rectangles: each stands in one group, once, so the sizes of the groups add up to their number.
-use Prim.Native.Nat.{ℕ, zero, suc, _+_, _*_, _≤_, _<_}
+use Prim.Native.Nat.{ℕ, zero, suc, _+_, _≤_, _<_}
 use mathlib.Core.Path.{_≡_, refl, sym, ap, ap₂, _∙_, subst}
 use mathlib.Core.Logic.{_⊎_, inl, inr}
 use mathlib.Core.List.{List, [], _∷_, _++_, map}
@@ -117,7 +117,7 @@ pick-first (suc n) i f p h e = at (eq-or-lt-of-le (le-of-suc-le-suc h)) (pick-fi
 
 module _ (r : ℕ → RectToPlace) where
   -- what the test says
-  abbrev Same : ℕ → ℕ → Type 0
+  abbrev pub Same : ℕ → ℕ → Type 0
   Same i j = (i ≡ j) ⊎ ((0 < r i .group) × (r i .group ≡ r j .group))
 
   pub same-says : (i j : ℕ) → sameGroup r i j ≡ true → Same i j
@@ -300,6 +300,29 @@ module _ (n : ℕ) (r : ℕ → RectToPlace) where
       each-mapped : {xs : List ℕ} → Each (λ i. (i < n) × (isLead r i ≡ true)) xs → Each (λ g. (lead : ℕ) × Group n r g lead) (map (members n r) xs)
       each-mapped none = none
       each-mapped (also {x} p ps) = also (x, group-of x (p .0) (p .1)) (each-mapped ps)
+
+  -- an ungrouped rectangle is a group of its own
+  pub ungrouped-alone : (i : ℕ) → i < n → r i .group ≡ 0 → members n r i ≡ i ∷ []
+  ungrouped-alone i h z =
+      let f : (rest : List ℕ) × (members n r i ≡ i ∷ rest) = pick-first n i (sameGroup r i) before h (same-said r i i (inl refl)) in
+      f .1
+      ∙ ap (λ (l : List ℕ). i ∷ l)
+      (only-one (f .0) (rw (f .1) at (each-map (λ j p. itself j (p .1)) (pick-each n (sameGroup r i))))
+      (rw (f .1) at (pick-rising n (sameGroup r i))))
+    where
+      itself-by : (j : ℕ) → (i ≡ j) ⊎ ((0 < r i .group) × (r i .group ≡ r j .group)) → i ≡ j
+      itself-by j (inl e) = e
+      itself-by j (inr (p, q)) = absurd (omega arith)
+
+      itself : (j : ℕ) → sameGroup r i j ≡ true → i ≡ j
+      itself j e = itself-by j (same-says r i j e)
+
+      before : None i (sameGroup r i)
+      before = record { at = λ j l. false-of r (sameGroup r i j) (λ e. let q : i ≡ j = itself j e in omega arith) }
+
+      only-one : (rest : List ℕ) → Each (λ j. i ≡ j) (i ∷ rest) → EachTwo (λ a b. a < b) (i ∷ rest) → rest ≡ []
+      only-one [] p q = refl
+      only-one (y ∷ ys) (also p (also e es)) (also-two (also l ls) q) = absurd (omega arith)
 
 -- no index stands in both
 pub record Disjoint (g h : List ℕ) : Type 0 where

@@ -1,33 +1,41 @@
 -- What is left free ends where the old sections did: each section stays inside its chamber, and none has a zero side.
-use Prim.Native.Nat.{ℕ, zero, suc, _+_, _*_, _≤_, _<_}
-use mathlib.Core.Path.{_≡_, refl, sym, ap, _∙_}
+use Prim.Native.Nat.{ℕ, _*_, _<_}
+use mathlib.Core.Path.{_≡_, refl, ap, _∙_}
 use mathlib.Core.Logic.{_⊎_, inl, inr}
-use mathlib.Core.List.{List, [], _∷_, _++_}
+use mathlib.Core.List.{List, [], _∷_}
 use mathlib.Core.Bool.{Bool, true, false, cond}
 use native.Mathlib.Nat.{eq-zero-or-pos, zero-mul, mul-zero}
 use native.Mathlib.Omega.{arith}
 use borrow.Author.Tests.{eqb-false}
 use lib.Dec.{ltb, eqb}
 use lib.ListN.{length, getD, set, length-set}
-use Rattle.lists.specs.Tab.{removeAt}
-use Rattle.lists.specs.Sort.{sortBy, Each, none, also}
+use Rattle.lists.specs.Sort.{Each, none, also}
+use Rattle.lists.proofs.Tabs.{getD-tab}
 use Rattle.lists.proofs.Sorts.{each-map, each-append, each-at, sort-each}
 use Rattle.bin_section.specs.declared.section.BinSection.{BinSection}
 use Rattle.bin_section.specs.declared.rect_to_insert.RectToInsert.{RectToInsert}
 use Rattle.bin_section.specs.declared.width_height_depth.WidthHeightDepth.{WidthHeightDepth}
-use Rattle.bin_section.specs.Section.{zeroSection}
+use Rattle.bin_section.specs.Section.{sectionAt, zeroSection}
 use Rattle.bin_section.specs.Sides.{volumeOf, Small}
 use Rattle.bin_section.specs.Replies.{reply}
-use Rattle.sections.proofs.Bounding.{SpanInside, Inside}
+use Rattle.sections.specs.Sections.{sections}
+use Rattle.sections.proofs.Bounding.{Inside}
 use Rattle.try_place.specs.declared.packed_location.PackedLocation.{PackedLocation}
 use Rattle.try_place.specs.declared.Placement.the-variants.{Placed}
 use Rattle.try_place.specs.declared.Tried.{Tried}
 use Rattle.try_place.specs.Try.{Reachable, fitOf}
 use Rattle.try_place.specs.Appended.{larger, keptOne, kept, appendedOf}
 use Rattle.try_place.proofs.Remaining.{Within, ThreeWithin, within-reachable, placed-within, placed-three}
-use Rattle.placing.specs.Rules.{One, placed, placeOne, Trial, stops, whole, placeGroup}
-use Rattle.placing.proofs.Reaches.{each-remove, three}
+use Rattle.placing.specs.Rules.{placed, placeOne, Trial, stops, whole, placeGroup}
+use Rattle.placing.proofs.Reaches.{each-tab, each-remove, three}
 use Rattle.grouped_rects_to_place.specs.declared.rect_to_place.RectToPlace.{RectToPlace}
+use Rattle.grouped_rects_to_place.specs.Rect.{rectAt}
+use Rattle.grouped_rects_to_place.specs.Groups.{groupsOf}
+use Rattle.target_bin.specs.Chambers.{chamberAt, chamberCount}
+use Rattle.target_bin.specs.Store.{partAt, freeAt, freeOf}
+use Rattle.target_bin.proofs.Passing.{ShapesSound, AllInside}
+use Rattle.rectangle_pack.specs.Order.{trialOrder}
+use Rattle.rectangle_pack.specs.Pack.{rectCount, start, packing}
 use Rattle.rectangle_pack.specs.Seats.{Seat, seat, seated}
 use Rattle.rectangle_pack.specs.Packing.{State, rectsAt, trialIn, firstWhole, changedBy, changed, ended, packGroups}
 use Rattle.rectangle_pack.proofs.Placings.{PlacedAt, Placings, no-more, then, locationIn, fit-is, placed-at, group-placings}
@@ -181,18 +189,18 @@ module _
         go false h = p
 
 -- the free sections of each chamber lie inside it: so they do after each group, and when the packing ends
-abbrev pub AllInside : ℕ → (ℕ → WidthHeightDepth) → State → Type 0
-AllInside n whds s = EachFree n (λ k. Inside (whds k)) s
+abbrev pub FreeInside : ℕ → (ℕ → WidthHeightDepth) → State → Type 0
+FreeInside n whds s = EachFree n (λ k. Inside (whds k)) s
 
 module _ (n : ℕ) (whds : ℕ → WidthHeightDepth) (small : (k : ℕ) → k < n → Small (whds k)) (r : ℕ → RectToPlace) where
-  pub inside-step : (id k : ℕ) (g : List ℕ) (s : State) → AllInside n whds s → AllInside n whds (changed r id k g s)
+  pub inside-step : (id k : ℕ) (g : List ℕ) (s : State) → FreeInside n whds s → FreeInside n whds (changed r id k g s)
   inside-step id k g s p =
       left-step n (λ j. Inside (whds j)) (λ j h. inside-reachable (whds j) (small j h)) (λ j. inside-passes (whds j)) r id k g s p
 
   pub inside-after :
       (order : List ℕ) (ids : ℕ → ℕ) (groups : List (List ℕ)) (s : State)
-      → AllInside n whds s
-      → AllInside n whds (packGroups order ids r groups s .after)
+      → FreeInside n whds s
+      → FreeInside n whds (packGroups order ids r groups s .after)
   inside-after order ids groups s p =
       left-after n (λ j. Inside (whds j)) (λ j h. inside-reachable (whds j) (small j h)) (λ j. inside-passes (whds j)) r order ids groups s p
 
@@ -215,3 +223,27 @@ changed-long r id k g s = go (trialIn r g (s .frees) k)
     go : (t : Trial) → (length (changedBy t id k g s .frees) ≡ length (s .frees)) × (length (changedBy t id k g s .seats) ≡ length (s .seats))
     go stops = (refl, refl)
     go (whole ls free) = (length-set (s .frees) k free, seated-long g ls (s .seats))
+
+-- ---- of the lent tables
+
+-- checks 2 and 3 leave each free section inside its chamber, and so does the packing
+module _ (chambers store rects : List ℕ) (shapes : ShapesSound chambers) (inside : AllInside chambers store) where
+  pub inside-start : FreeInside (chamberCount chambers) (λ k. chamberAt chambers k .whd) (start chambers store rects)
+  unfolding start freeOf freeAt sections
+  inside-start =
+      record {
+        at = λ k h.
+            rw (getD-tab (chamberCount chambers) (freeAt chambers store) k [] h)
+            (each-tab (chamberAt chambers k .count) (sectionAt (partAt store k)) (λ j l. inside .inside k j h l));
+      }
+
+  pub chambers-small : (k : ℕ) → k < chamberCount chambers → Small (chamberAt chambers k .whd)
+  chambers-small k h =
+      let p = shapes .sides k h in
+      record { width-small = p .width-ok .most; height-small = p .height-ok .most; depth-small = p .depth-ok .most }
+
+  pub inside-packed : FreeInside (chamberCount chambers) (λ k. chamberAt chambers k .whd) (packing chambers store rects .after)
+  unfolding packing
+  inside-packed =
+      inside-after (chamberCount chambers) (λ k. chamberAt chambers k .whd) chambers-small (rectAt rects) (trialOrder chambers)
+      (λ k. chamberAt chambers k .id) (groupsOf (rectCount rects) (rectAt rects)) (start chambers store rects) inside-start

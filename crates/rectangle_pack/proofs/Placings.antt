@@ -1,9 +1,8 @@
 -- One rectangle goes into the last section that fits it, or none fits; a whole group goes in one rectangle after the other.
-use Prim.Native.Nat.{ℕ, zero, suc, _+_, _*_, _≤_, _<_}
-use mathlib.Core.Path.{_≡_, refl, sym, ap, _∙_}
+use Prim.Native.Nat.{ℕ, zero, suc, _≤_, _<_}
+use mathlib.Core.Path.{_≡_, refl, sym, _∙_}
 use mathlib.Core.Logic.{_⊎_, inl, inr}
 use mathlib.Core.List.{List, [], _∷_, _++_, append-assoc, append-nil}
-use mathlib.Core.Bool.{Bool, true, false}
 use native.Mathlib.Nat.{eq-or-lt-of-le, le-of-suc-le-suc, lt-suc-self, le-step}
 use native.Mathlib.Omega.{arith}
 use native.Mathlib.Decide.{decLt}
@@ -13,11 +12,10 @@ use Rattle.bin_section.specs.declared.section.BinSection.{BinSection}
 use Rattle.bin_section.specs.declared.rect_to_insert.RectToInsert.{RectToInsert}
 use Rattle.bin_section.specs.Section.{zeroSection}
 use Rattle.try_place.specs.declared.packed_location.PackedLocation.{PackedLocation}
-use Rattle.try_place.specs.declared.Tried.{Tried}
 use Rattle.try_place.specs.Try.{placedOf, fitOf, onPlaced}
 use Rattle.try_place.specs.Appended.{appendedOf}
 use Rattle.try_place.proofs.Trying.{fit-wider, fit-taller, fit-deeper, fit-placed}
-use Rattle.placing.specs.Rules.{One, nowhere, placed, placeFrom, placeOne, Trial, stops, whole, afterOne, next, placeAll, placeGroup}
+use Rattle.placing.specs.Rules.{One, nowhere, placed, placeFrom, placeOne, stops, whole, afterOne, placeAll, placeGroup}
 use Rattle.rectangle_pack.specs.Promises.{Fits}
 
 -- ---- one section

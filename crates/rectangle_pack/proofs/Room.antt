@@ -1,13 +1,13 @@
 -- Placing a rectangle leaves at most two sections more: so the store can't overflow past check 6.
 use Prim.Native.Nat.{ℕ, zero, suc, _+_, _*_, _≤_, _<_}
-use mathlib.Core.Path.{_≡_, refl, sym, ap, _∙_, subst}
-use mathlib.Core.List.{List, [], _∷_, _++_, map}
+use mathlib.Core.Path.{_≡_, refl, ap}
+use mathlib.Core.List.{List, [], _∷_, _++_}
 use mathlib.Core.Bool.{Bool, true, false, cond}
 use native.Mathlib.Omega.{arith}
 use native.Mathlib.Decide.{decLt, ℕ-discrete}
 use borrow.Author.Tests.{ltb-false}
 use lib.Dec.{ltb, eqb}
-use lib.ListN.{length, getD, set, length-append, length-map, length-set, List·getD-eq-default}
+use lib.ListN.{length, getD, set, length-append, length-map, List·getD-eq-default}
 use lib.Seq.{getD-set-same, getD-set-other, set-out}
 use Rattle.lists.specs.Tab.{tab, removeAt}
 use Rattle.lists.specs.Sort.{sortBy}
@@ -16,6 +16,7 @@ use Rattle.lists.proofs.Lowests.{None}
 use Rattle.lists.proofs.Tabs.{length-tab, getD-tab, length-removeAt}
 use Rattle.bin_section.specs.declared.section.BinSection.{BinSection}
 use Rattle.bin_section.specs.declared.rect_to_insert.RectToInsert.{RectToInsert}
+use Rattle.bin_section.specs.Replies.{reply}
 use Rattle.bin_section.specs.Section.{zeroSection}
 use Rattle.bin_section.specs.Sides.{volumeOf}
 use Rattle.sections.specs.Sections.{sections}
@@ -26,7 +27,7 @@ use Rattle.try_place.specs.Splits.{sixSplits}
 use Rattle.try_place.specs.Choice.{chosen}
 use Rattle.try_place.specs.Try.{fitOf}
 use Rattle.try_place.specs.Appended.{larger, keptOne, kept, appendedOf}
-use Rattle.placing.specs.Rules.{One, placed, placeOne, Trial, stops, whole, placeGroup}
+use Rattle.placing.specs.Rules.{placed, placeOne, Trial, stops, whole, placeGroup}
 use Rattle.target_bin.specs.Chambers.{chamberAt, chamberCount}
 use Rattle.target_bin.specs.Store.{partAt, freeAt, freeOf}
 use Rattle.grouped_rects_to_place.specs.declared.rect_to_place.RectToPlace.{RectToPlace}
@@ -34,8 +35,7 @@ use Rattle.grouped_rects_to_place.specs.Rect.{rectAt}
 use Rattle.grouped_rects_to_place.specs.Groups.{groupsOf}
 use Rattle.grouped_rects_to_place.proofs.Sizes.{total, groups-total}
 use Rattle.rectangle_pack.specs.Order.{trialOrder}
-use Rattle.rectangle_pack.specs.Seats.{Seat, seated}
-use Rattle.rectangle_pack.specs.Packing.{State, state, rectsAt, trialIn, firstWhole, changedBy, changed, Ended, packGroups}
+use Rattle.rectangle_pack.specs.Packing.{State, rectsAt, trialIn, firstWhole, changedBy, changed, ended, packGroups}
 use Rattle.rectangle_pack.specs.Pack.{rectCount, noRoom, start, packing}
 use Rattle.rectangle_pack.specs.Promises.{Fits}
 use Rattle.rectangle_pack.proofs.Placings.{PlacedAt, Placings, no-more, then, fit-is, placed-at, group-placings}
@@ -145,7 +145,7 @@ frees-step P Q r g still placed′ id k s p = go (placeGroup (getD (s .frees) k 
 -- ---- the store can't overflow
 
 -- each chamber has room for two sections more for each rectangle of the groups that are left
-abbrev RoomFor : List (List ℕ) → ℕ → List BinSection → Type 0
+abbrev pub RoomFor : List (List ℕ) → ℕ → List BinSection → Type 0
 RoomFor groups k free = length free + 2 * total groups ≤ 128
 
 abbrev pub Roomy : State → List (List ℕ) → Type 0
@@ -180,7 +180,7 @@ room-after order ids r (g ∷ gs) s p k =
     go :
         (b : Bool)
         → length (getD (packGroups order ids r gs (changed r (ids c) c g s) .after .frees) k []) ≤ 128
-        → length (getD (cond b (packGroups order ids r gs (changed r (ids c) c g s)) (record { answer = record { number = 7; detail = getD g 0 0 }; after = s }) .after .frees) k []) ≤ 128
+        → length (getD (cond b (packGroups order ids r gs (changed r (ids c) c g s)) (ended (reply 7 (getD g 0 0)) s) .after .frees) k []) ≤ 128
     go true h = h
     go false h = omega (arith, p .at k)
 
