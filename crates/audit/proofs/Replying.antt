@@ -15,8 +15,9 @@ use Rattle.bin_section.specs.declared.section.BinSection.{BinSection}
 use Rattle.bin_section.specs.declared.reply.Reply.{Reply}
 use Rattle.bin_section.specs.Sides.{volumeOf, sidesOk}
 use Rattle.bin_section.specs.Replies.{reply, inOrder}
+use Rattle.bin_section.specs.Inside.{outside}
 use Rattle.cells.specs.Whole.{boxAt, volumes}
-use Rattle.audit.specs.Audit.{auditBoxes, lengthsOk, outside, sharesEarlier, auditReply, shownOf, audited, auditOf}
+use Rattle.audit.specs.Audit.{auditBoxes, lengthsOk, sharesEarlier, auditReply, shownOf, audited, auditOf}
 use Rattle.audit.proofs.TwoLists.{boxes-length}
 
 -- what lengths that pass check 1 have

@@ -39,6 +39,14 @@ pub or-second : (a b : Bool) → (a || b) ≡ false → b ≡ false
 or-second true b p = absurd (true-false p)
 or-second false b p = p
 
+pub or-false : (a : Bool) → (a || false) ≡ a
+or-false true = refl
+or-false false = refl
+
+pub or-assoc : (a b c : Bool) → ((a || b) || c) ≡ (a || (b || c))
+or-assoc true b c = refl
+or-assoc false b c = refl
+
 pub not-yes : (a : Bool) → a ≡ true → not a ≡ false
 not-yes true p = refl
 not-yes false p = absurd (true-false (sym p))

@@ -1,7 +1,7 @@
-use Rattle.sections.specs.Inside.{insideOf}
+use Rattle.bin_section.specs.Inside.{insideOf}
 use borrow.Author.Needs.{needs}
-use Rattle.sections.proofs.bounds.inside.Statement.{statement}
-use Rattle.sections.proofs.bounds.inside.Tie as tie
+use Rattle.bin_section.proofs.bounds.inside.Statement.{statement}
+use Rattle.bin_section.proofs.bounds.inside.Tie as tie
 
 span-inside-requires : tie.Need-span-inside-requires
 span-inside-requires c κs = search needs

@@ -1,8 +1,8 @@
 // Whether a box lies in its chamber with all its cells. The Rust's comment decides, not its code, which tests only the origin.
 ghost use mathlib.Core.Path.{_≡_};
-ghost use Rattle.sections.specs.Inside.{spanInside, insideOf};
-use bin_section::BinSection;
-use bin_section::WidthHeightDepth;
+ghost use Rattle.bin_section.specs.Inside.{spanInside, insideOf};
+use crate::section::BinSection;
+use crate::width_height_depth::WidthHeightDepth;
 
 pub fn inside(section: BinSection, whd: WidthHeightDepth) -> bool
     ensures { λ b. ⌜ b ≡ insideOf whd section ⌝ }

@@ -1,7 +1,7 @@
-use Rattle.sections.specs.Inside.{spanInside}
+use Rattle.bin_section.specs.Inside.{spanInside}
 use borrow.Author.Needs.{needs}
-use Rattle.sections.proofs.bounds.span_inside.Statement.{statement}
-use Rattle.sections.proofs.bounds.span_inside.Tie as tie
+use Rattle.bin_section.proofs.bounds.span_inside.Statement.{statement}
+use Rattle.bin_section.proofs.bounds.span_inside.Tie as tie
 
 add-result : tie.Need-add-result
 add-result c = search needs
