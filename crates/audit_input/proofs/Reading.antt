@@ -16,7 +16,7 @@ use Rattle.bin_section.specs.declared.reply.Reply.{Reply}
 use Rattle.bin_section.specs.Replies.{reply}
 use Rattle.wire.specs.Word.{wordAt, wordsIn}
 use Rattle.wire.proofs.Filling.{length-wordsIn}
-use Rattle.audit.specs.Audit.{lengthsOk, auditReply, Audited, audited, auditOf}
+use Rattle.audit.specs.Audit.{lengthsOk, auditReply}
 use Rattle.audit.proofs.Replying.{reply-length}
 use Rattle.audit_input.specs.Input.{headWord, chamberOf, placedCount, freeCount, placedOf, freeOf, isInput, inputReply}
 use Rattle.audit_input.specs.Line.{lineOf}
@@ -34,10 +34,6 @@ boxes-read b w₀ w at n e = e ∙ ap (λ (l : List ℕ). wordsIn l n ++ drop n 
 -- the words that were read, as the front part of their table
 pub words-front : (b w : List ℕ) (n : ℕ) → take n (wordsIn b n ++ drop n w) ≡ wordsIn b n
 words-front b w n = take-at (wordsIn b n) (drop n w) n (length-wordsIn b n)
-
-pub from-audit : (whd : WidthHeightDepth) (placed free shown : List ℕ) (r : Reply) → audited r shown ≡ auditOf whd placed free → r ≡ auditReply whd placed free
-unfolding auditOf
-from-audit whd placed free shown r e = ap (λ (a : Audited). a .answer) e
 
 -- the audit of the words that were read
 pub answer-input :

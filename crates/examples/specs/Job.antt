@@ -3,6 +3,7 @@ use Prim.Native.Nat.{ℕ, _+_}
 use mathlib.Core.List.{List, [], _∷_, map}
 use mathlib.Core.Bool.{cond}
 use lib.Dec.{eqb}
+use Rattle.bin_section.specs.declared.width_height_depth.WidthHeightDepth.{WidthHeightDepth}
 use Rattle.bin_section.specs.declared.section.BinSection.{BinSection}
 use Rattle.bin_section.specs.declared.rect_to_insert.RectToInsert.{RectToInsert}
 use Rattle.bin_section.specs.Sides.{volumeOf}
@@ -10,9 +11,11 @@ use Rattle.try_place.specs.Splits.{sixSplits}
 use Rattle.try_place.specs.Choice.{chosen}
 use Rattle.try_place.specs.Try.{tryOf, numberOf}
 use Rattle.try_place.specs.Appended.{appendedOf}
+use Rattle.audit.specs.Audit.{auditOf}
 
 pub data Job : Type 0 where
   tries : BinSection → RectToInsert → Job
+  audits : WidthHeightDepth → List ℕ → List ℕ → Job
 
 -- what an example says. A field that an example does not speak of is 0 or empty.
 pub record Outcome : Type 0 where
@@ -22,6 +25,8 @@ pub record Outcome : Type 0 where
   pub split : ℕ
   pub volumes : List ℕ
   pub appended : List BinSection
+  -- of an audit: the words that it shows
+  pub shown : List ℕ
 
 unfoldable pub tried : BinSection → RectToInsert → Outcome
 tried s r =
@@ -33,7 +38,14 @@ tried s r =
       split = cond (eqb n 0) (chosen (sixSplits s r) + 1) 0;
       volumes = cond (eqb n 0) (map (λ (b : BinSection). volumeOf (b .whd)) (t .sections)) [];
       appended = appendedOf (t .sections);
+      shown = [];
     }
+
+unfoldable pub auditOutcome : WidthHeightDepth → List ℕ → List ℕ → Outcome
+auditOutcome whd placed free =
+    let a = auditOf whd placed free in
+    record { reply = a .answer .number; detail = a .answer .detail; split = 0; volumes = []; appended = []; shown = a .shown }
 
 unfoldable pub answered : Job → Outcome
 answered (tries s r) = tried s r
+answered (audits whd placed free) = auditOutcome whd placed free

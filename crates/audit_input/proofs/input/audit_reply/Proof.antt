@@ -1,5 +1,5 @@
 use mathlib.Core.Path.{_∙_}
-use Rattle.audit_input.proofs.Reading.{from-audit}
+use Rattle.audit.proofs.Replying.{answer-of}
 use borrow.Author.Needs.{needs}
 use Rattle.audit_input.proofs.input.audit_reply.Statement.{statement}
 use Rattle.audit_input.proofs.input.audit_reply.Tie as tie
@@ -11,7 +11,7 @@ new-requires : tie.Need-new-requires
 new-requires c κs = search needs
 
 returns : tie.Need-returns
-returns c = c .new .ensures ∙ from-audit _ _ _ _ _ (c .before .audit .ensures)
+returns c = c .new .ensures ∙ answer-of _ _ _ _ _ (c .before .audit .ensures)
 
 pub audit-reply-spec : {M : Type 1} → statement M
 audit-reply-spec = tie.close (tie.spec audit-requires new-requires returns)
