@@ -4,6 +4,7 @@ use mathlib.Core.List.{List, [], _∷_, map}
 use mathlib.Core.Bool.{cond}
 use lib.Dec.{eqb}
 use Rattle.bin_section.specs.declared.width_height_depth.WidthHeightDepth.{WidthHeightDepth}
+use Rattle.bin_section.specs.declared.reply.Reply.{Reply}
 use Rattle.bin_section.specs.declared.section.BinSection.{BinSection}
 use Rattle.bin_section.specs.declared.rect_to_insert.RectToInsert.{RectToInsert}
 use Rattle.bin_section.specs.Sides.{volumeOf}
@@ -11,10 +12,20 @@ use Rattle.try_place.specs.Splits.{sixSplits}
 use Rattle.try_place.specs.Choice.{chosen}
 use Rattle.try_place.specs.Try.{tryOf, numberOf}
 use Rattle.try_place.specs.Appended.{appendedOf}
-use Rattle.audit.specs.Audit.{auditOf}
+use Rattle.target_bin.specs.Store.{freeOf}
+use Rattle.target_bin.specs.Return.{returnOf}
+use Rattle.rectangle_pack.specs.Pack.{PackOutcome, packOf}
+use Rattle.audit.specs.Audit.{Audited, auditOf}
 
 pub data Job : Type 0 where
   tries : BinSection → RectToInsert → Job
+  -- chamber table, store, id, box
+  returns : List ℕ → List ℕ → ℕ → BinSection → Job
+  -- chamber table, store, rectangle table, placement table
+  packs : List ℕ → List ℕ → List ℕ → List ℕ → Job
+  -- the same, where the example says the reply and the detail alone
+  replies : List ℕ → List ℕ → List ℕ → List ℕ → Job
+  -- sides, placed list, free list
   audits : WidthHeightDepth → List ℕ → List ℕ → Job
 
 -- what an example says. A field that an example does not speak of is 0 or empty.
@@ -25,6 +36,9 @@ pub record Outcome : Type 0 where
   pub split : ℕ
   pub volumes : List ℕ
   pub appended : List BinSection
+  -- of a pack that is not refused by a check: the words of each placement, and the free sections of each chamber afterwards
+  pub placements : List ℕ
+  pub free : List (List BinSection)
   -- of an audit: the words that it shows
   pub shown : List ℕ
 
@@ -38,14 +52,44 @@ tried s r =
       split = cond (eqb n 0) (chosen (sixSplits s r) + 1) 0;
       volumes = cond (eqb n 0) (map (λ (b : BinSection). volumeOf (b .whd)) (t .sections)) [];
       appended = appendedOf (t .sections);
+      placements = [];
+      free = [];
       shown = [];
     }
 
-unfoldable pub auditOutcome : WidthHeightDepth → List ℕ → List ℕ → Outcome
-auditOutcome whd placed free =
-    let a = auditOf whd placed free in
-    record { reply = a .answer .number; detail = a .answer .detail; split = 0; volumes = []; appended = []; shown = a .shown }
+-- a job of which the example says the reply and the detail alone
+abbrev pub said : Reply → Outcome
+said r = record { reply = r .number; detail = r .detail; split = 0; volumes = []; appended = []; placements = []; free = []; shown = [] }
+
+unfoldable pub packed : PackOutcome → Outcome
+packed o =
+    record {
+      reply = o .answer .number;
+      detail = o .answer .detail;
+      split = 0;
+      volumes = [];
+      appended = [];
+      placements = o .placements;
+      free = freeOf (o .chambers) (o .store);
+      shown = [];
+    }
+
+unfoldable pub audited : Audited → Outcome
+audited a =
+    record {
+      reply = a .answer .number;
+      detail = a .answer .detail;
+      split = 0;
+      volumes = [];
+      appended = [];
+      placements = [];
+      free = [];
+      shown = a .shown;
+    }
 
 unfoldable pub answered : Job → Outcome
 answered (tries s r) = tried s r
-answered (audits whd placed free) = auditOutcome whd placed free
+answered (returns chambers store id box) = said (returnOf chambers store id box .reply)
+answered (packs chambers store rects placements) = packed (packOf chambers store rects placements)
+answered (replies chambers store rects placements) = said (packOf chambers store rects placements .answer)
+answered (audits whd placed free) = audited (auditOf whd placed free)

@@ -1,15 +1,14 @@
 -- Laws of fresh chambers: one part, one turn of the loop over the chambers, its end, and what is left in the model.
 use Prim.Native.Nat.{ℕ, zero, suc, _+_, _*_, _-_, _≤_, _<_}
 use mathlib.Core.Path.{_≡_, refl, sym, ap, ap₂, _∙_}
-use mathlib.Core.List.{List, [], _∷_, _++_, append-assoc, append-nil, map}
+use mathlib.Core.List.{List, [], _∷_, _++_, append-nil, map}
 use mathlib.Core.Bool.{true, false, not}
 use native.Mathlib.Numerals.{add-one}
 use native.Mathlib.Omega.{arith}
-use lib.ListN.{length, getD, take, drop, replicate, length-append, length-drop, drop-of-length-le}
-use lib.Seq.{take-at, drop-at, drop-drop, getD-append-add, getD-drop, length-take-le}
+use lib.ListN.{length, getD, drop, replicate, drop-of-length-le}
+use lib.Seq.{take-at, drop-at, drop-drop, getD-append-add, getD-drop}
 use Rattle.lists.specs.Tab.{tab, put}
-use Rattle.lists.proofs.Tabs.{length-tab, getD-tab, length-put}
-use Rattle.bin_section.specs.declared.width_height_depth.WidthHeightDepth.{WidthHeightDepth}
+use Rattle.lists.proofs.Tabs.{length-put}
 use Rattle.bin_section.specs.declared.section.BinSection.{BinSection}
 use Rattle.bin_section.specs.Section.{wholeSection, wordsOf}
 use Rattle.bin_section.specs.Replies.{reply}
@@ -25,7 +24,7 @@ use Rattle.target_bin.specs.Checks.{lengthsOk, badShape, check1, check2F
 use Rattle.target_bin.specs.Outcome.{Outcome, outcome, refused}
 use Rattle.target_bin.specs.Fresh.{freshened, freshTable, freshStore, freshOf}
 use Rattle.target_bin.proofs.Ordering.{fires, passes, all-done}
-use Rattle.target_bin.proofs.Passing.{found-fires, found-passes}
+use Rattle.target_bin.proofs.Checking.{found-fires, found-passes}
 use Rattle.target_bin.proofs.Tables.{chamberAt-ext}
 use Rattle.target_bin.proofs.Parts.{length-partOf}
 

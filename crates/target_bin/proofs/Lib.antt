@@ -1,6 +1,10 @@
 pub mod Ordering
 pub mod Tables
 pub mod Parts
+pub mod Checking
 pub mod Passing
 pub mod Freshening
+pub mod Putting
 pub mod Returning
+pub mod FreshModel
+pub mod ReturnModel

@@ -42,6 +42,26 @@ pub rest-passes : (c : Check) (cs : List Check) (r : Reply) → Numbered (c ∷ 
 rest-passes c cs r n z =
     sym (ap (λ (a : Reply). a .number) (passes (λ a. a) r c cs (first-passes c cs r n z))) ∙ z
 
+-- every check of the row passes
+pub data AllPass : List Check → Type 0 where
+  no-more : AllPass []
+  and : {c : Check} {cs : List Check} → c .fires ≡ false → AllPass cs → AllPass (c ∷ cs)
+
+pub all-pass : (cs : List Check) (r : Reply) → Numbered cs → answerOf cs r .number ≡ 0 → AllPass cs
+all-pass [] r n z = no-more
+all-pass (c ∷ cs) r (more ne n) z =
+    and (first-passes c cs r (more ne n) z) (all-pass cs r n (rest-passes c cs r (more ne n) z))
+
+-- a part of what is decided is decided by the same checks
+pub in-map : {A B : Type 0} (g : A → B) (f : Reply → A) (d : A) (cs : List Check) → g (inOrder cs f d) ≡ inOrder cs (λ r. g (f r)) (g d)
+unfolding inOrder
+in-map g f d [] = refl
+in-map g f d (c ∷ cs) = go (in-map g f d cs) (c .fires)
+  where
+    go : g (inOrder cs f d) ≡ inOrder cs (λ r. g (f r)) (g d) → (b : Bool) → g (cond b (f (c .answer)) (inOrder cs f d)) ≡ cond b (g (f (c .answer))) (inOrder cs (λ r. g (f r)) (g d))
+    go rest true = refl
+    go rest false = rest
+
 module _ {A : Type 0} (f : Reply → A) (d : A) (r : Reply) where
   -- the row answers 0: what comes after it decides
   pub row-passes : (cs ds : List Check) → Numbered cs → answerOf cs r .number ≡ 0 → inOrder (cs ++ ds) f d ≡ inOrder ds f d

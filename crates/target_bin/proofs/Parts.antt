@@ -1,14 +1,14 @@
 -- Laws of the store: one chamber's part lent, and that reading and writing are each other's inverse.
-use Prim.Native.Nat.{ℕ, zero, suc, _+_, _*_, _-_, _/_, _≤_, _<_}
+use Prim.Native.Nat.{ℕ, _+_, _*_, _-_, _≤_, _<_}
 use mathlib.Core.Path.{_≡_, refl, sym, ap, ap₂, _∙_}
-use mathlib.Core.List.{List, [], _∷_, _++_, append-assoc}
+use mathlib.Core.List.{List, [], _++_, append-assoc}
 use borrow.Rule.Slice.PartMut.{putMid}
 use native.Mathlib.Omega.{arith}
 use native.Mathlib.Decide.{decLt}
-use lib.ListN.{length, getD, take, drop, set, replicate, length-append, length-take, length-drop, length-replicate, take-append-drop}
-use lib.Seq.{length-take-le, getD-take, getD-drop, ext-getD, drop-drop, take-at, drop-at, take-all, take-append-le}
+use lib.ListN.{length, getD, take, drop, set, replicate, length-append, length-take, length-drop, length-replicate}
+use lib.Seq.{length-take-le, getD-take, getD-drop, ext-getD, take-at, drop-at, take-all}
 use Rattle.lists.specs.Tab.{tab, put}
-use Rattle.lists.proofs.Tabs.{length-tab, getD-tab, tab-set, length-put, getD-put-in, getD-put-before, getD-put-after, lent}
+use Rattle.lists.proofs.Tabs.{length-tab, getD-tab, tab-set, length-put, getD-put-before, getD-put-after, lent}
 use Rattle.bin_section.specs.declared.section.BinSection.{BinSection}
 use Rattle.bin_section.specs.Section.{wordsOf}
 use Rattle.sections.specs.Sections.{sections, allWords}

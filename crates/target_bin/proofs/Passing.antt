@@ -1,28 +1,28 @@
--- What checks 1, 2 and 3 leave of the tables where they pass.
-use Prim.Native.Nat.{ℕ, zero, suc, _+_, _*_, _-_, _%_, _≤_, _<_}
+-- What checks 1, 2 and 3 mean: they pass exactly where the tables are sound.
+use Prim.Native.Nat.{ℕ, zero, suc, _*_, _-_, _%_, _≤_, _<_}
 use mathlib.Core.Path.{_≡_, refl, sym, ap, _∙_}
+use mathlib.Core.Logic.{_↔_}
 use mathlib.Core.List.{List, [], _∷_}
 use mathlib.Core.Bool.{Bool, true, false, _&&_, not}
 use native.Mathlib.Omega.{arith}
-use borrow.Author.Tests.{lt-ltb, le-ltb, eq-eqb, ne-eqb, le-leb, lt-leb, ltb-true, ltb-false, leb-true, eqb-true, not-true, not-false}
-use lib.ListN.{length, take, drop}
+use borrow.Author.Tests.{lt-ltb, eq-eqb, le-leb, ltb-true, ltb-false, leb-true, eqb-true, not-false}
+use lib.ListN.{length}
 use lib.Dec.{ltb, leb, eqb}
-use Rattle.lists.specs.Lowest.{lowest, anyBelow}
-use Rattle.lists.proofs.Flags.{and-first, and-second, and-no-first, and-no-second}
-use Rattle.lists.proofs.Lowests.{None, none-of-lowest, any-none}
+use Rattle.lists.specs.Lowest.{lowest}
+use Rattle.lists.proofs.Flags.{and-both, and-first, and-second}
+use Rattle.lists.proofs.Lowests.{None, none-of-lowest, any-none, none-any, lowest-none}
 use Rattle.bin_section.specs.declared.width_height_depth.WidthHeightDepth.{WidthHeightDepth}
 use Rattle.bin_section.specs.declared.reply.Reply.{Reply}
 use Rattle.bin_section.specs.Sides.{sideOk, sidesOk}
 use Rattle.bin_section.specs.Section.{sectionAt}
-use Rattle.bin_section.specs.Replies.{reply, once, each}
-use Rattle.sections.specs.Inside.{insideOf, outsideAt}
-use Rattle.sections.proofs.Bounding.{Inside, inside→, any-lowest}
-use Rattle.target_bin.specs.declared.chamber.TargetBin.{TargetBin}
+use Rattle.bin_section.specs.Replies.{reply, each}
+use Rattle.sections.specs.Inside.{outsideAt}
+use Rattle.sections.proofs.Bounding.{Inside, inside→, →inside}
 use Rattle.target_bin.specs.Chambers.{chamberAt, chamberCount}
 use Rattle.target_bin.specs.Store.{partAt}
 use Rattle.target_bin.specs.Checks.{lengthsOk, idOk, shapeOk, chamberOk, badShape, badChamber, badSections, check1, check2, check3, tableChecks, Counted, Shaped}
-use Rattle.target_bin.proofs.Parts.{lent-part}
-use Rattle.target_bin.proofs.Ordering.{fires, passes, all-done, Numbered, none, more, answerOf, first-passes, rest-passes}
+use Rattle.target_bin.proofs.Checking.{lengths-store, tables-pass}
+use Rattle.target_bin.proofs.Ordering.{Numbered, none, more, answerOf, first-passes, rest-passes}
 
 -- 1
 pub record Lengths (chambers store : List ℕ) : Type 0 where
@@ -39,30 +39,6 @@ lengths chambers store t =
     let r : length chambers % 5 ≡ 0 = eqb-true _ _ (and-first a (b && d) t) in
     let rest : (b && d) ≡ true = and-second a (b && d) t in
     record { few = leb-true _ _ (and-first b d rest); whole = omega arith; long = eqb-true _ _ (and-second b d rest) }
-
--- the cases in which the code finds a table's length faulty or not
-module _ (chambers store : List ℕ) where
-  pub lengths-odd : (length chambers % 5 ≡ 0 → ⊥) → lengthsOk chambers store ≡ false
-  unfolding lengthsOk
-  lengths-odd ne = and-no-first (eqb (length chambers % 5) 0) _ (ne-eqb _ _ ne)
-
-  pub lengths-many : 16 < chamberCount chambers → lengthsOk chambers store ≡ false
-  unfolding lengthsOk
-  lengths-many h = and-no-second (eqb (length chambers % 5) 0) _ (and-no-first (leb (chamberCount chambers) 16) _ (lt-leb _ _ h))
-
-  pub lengths-store : length chambers % 5 ≡ 0 → chamberCount chambers ≤ 16 → lengthsOk chambers store ≡ eqb (length store) (chamberCount chambers * 768)
-  unfolding lengthsOk
-  lengths-store e h = rw (eq-eqb (length chambers % 5) 0 e, le-leb (chamberCount chambers) 16 h)
-
--- the cases of an id beside its predecessor
-pub id-first : (chambers : List ℕ) (i : ℕ) → i ≡ 0 → idOk chambers i ≡ true
-unfolding idOk
-id-first chambers i e = rw e
-
-pub id-later : (chambers : List ℕ) (i : ℕ) (a b : TargetBin) → (i ≡ 0 → ⊥) → a ≡ chamberAt chambers (i - 1) → b ≡ chamberAt chambers i → ltb (a .id) (b .id) ≡ idOk chambers i
-unfolding idOk
-id-later chambers zero a b ne p q = absurd (ne refl)
-id-later chambers (suc n) a b ne p q = let e : suc n - 1 ≡ n = omega arith in let p′ : a ≡ chamberAt chambers n = p ∙ ap (chamberAt chambers) e in rw (p′, q)
 
 -- "Sides 1 to 65,535."
 pub record InRange (side : ℕ) : Type 0 where
@@ -134,57 +110,6 @@ all-inside chambers store p =
           (not-false _ (any-none (chamberAt chambers i .count) (outsideAt (chamberAt chambers i .whd) (partAt store i)) (p .at i h) .at j l));
     }
 
--- the test of check 3 on one chamber, as the code makes it
-pub bad-is : (chambers store : List ℕ) (i r : ℕ) (b : TargetBin) → b ≡ chamberAt chambers i → r ≡ lowest (b .count) (outsideAt (b .whd) (take (i * 768 + 768 - i * 768) (drop (i * 768) store))) → ltb r (b .count) ≡ badSections chambers store i
-unfolding badSections
-bad-is chambers store i r b read found =
-    let q : ltb r (b .count) ≡ anyBelow (b .count) (outsideAt (b .whd) (partAt store i)) =
-    ap (λ (m : ℕ). ltb m (b .count)) (found ∙ ap (λ (p : List ℕ). lowest (b .count) (outsideAt (b .whd) p)) (lent-part store i))
-    ∙ sym (any-lowest (b .count) (outsideAt (b .whd) (partAt store i))) in
-    q ∙ rw read
-
--- ---- the cases of checks 1 to 3, as the code comes to them
-
--- a loop that passed every entry
-pub none-found : (n r : ℕ) (f : ℕ → Bool) → r ≡ lowest n f → n ≤ r → None n f
-none-found n r f e h = none-of-lowest n f (omega arith)
-
--- a check of each entry that fires, and one that does not
-pub found-fires : (n r : ℕ) (f : ℕ → Bool) → r ≡ lowest n f → r < n → ltb (lowest n f) n ≡ true
-found-fires n r f e h = lt-ltb (lowest n f) n (omega arith)
-
-pub found-passes : (n r : ℕ) (f : ℕ → Bool) → r ≡ lowest n f → n ≤ r → ltb (lowest n f) n ≡ false
-found-passes n r f e h = le-ltb (lowest n f) n (omega arith)
-
-module _ (chambers store : List ℕ) where
-  pub tables-lengths : lengthsOk chambers store ≡ false → reply 1 0 ≡ answerOf (tableChecks chambers store) (reply 0 0)
-  tables-lengths e =
-      sym (fires (λ a. a) (reply 0 0) (check1 chambers store) (check2 chambers ∷ check3 chambers store ∷ []) (ap not e))
-
-  module _ (ok : lengthsOk chambers store ≡ true) where
-    past1 : answerOf (tableChecks chambers store) (reply 0 0) ≡ answerOf (check2 chambers ∷ check3 chambers store ∷ []) (reply 0 0)
-    past1 = passes (λ a. a) (reply 0 0) (check1 chambers store) (check2 chambers ∷ check3 chambers store ∷ []) (ap not ok)
-
-    pub tables-chamber : (r : ℕ) → r ≡ lowest (chamberCount chambers) (badChamber chambers) → r < chamberCount chambers → reply 2 r ≡ answerOf (tableChecks chambers store) (reply 0 0)
-    tables-chamber r e h =
-        ap (reply 2) e
-        ∙ sym (past1 ∙ fires (λ a. a) (reply 0 0) (check2 chambers) (check3 chambers store ∷ []) (found-fires _ r (badChamber chambers) e h))
-
-    module _ (r : ℕ) (e : r ≡ lowest (chamberCount chambers) (badChamber chambers)) (h : chamberCount chambers ≤ r) where
-      past2 : answerOf (tableChecks chambers store) (reply 0 0) ≡ answerOf (check3 chambers store ∷ []) (reply 0 0)
-      past2 =
-          past1 ∙ passes (λ a. a) (reply 0 0) (check2 chambers) (check3 chambers store ∷ []) (found-passes _ r (badChamber chambers) e h)
-
-      pub tables-section : (q : ℕ) → q ≡ lowest (chamberCount chambers) (badSections chambers store) → q < chamberCount chambers → reply 3 q ≡ answerOf (tableChecks chambers store) (reply 0 0)
-      tables-section q e′ h′ =
-          ap (reply 3) e′ ∙ sym (past2 ∙ fires (λ a. a) (reply 0 0) (check3 chambers store) [] (found-fires _ q (badSections chambers store) e′ h′))
-
-      pub tables-pass : (q : ℕ) → q ≡ lowest (chamberCount chambers) (badSections chambers store) → chamberCount chambers ≤ q → reply 0 0 ≡ answerOf (tableChecks chambers store) (reply 0 0)
-      tables-pass q e′ h′ =
-          sym (past2
-          ∙ passes (λ a. a) (reply 0 0) (check3 chambers store) [] (found-passes _ q (badSections chambers store) e′ h′)
-          ∙ all-done (λ a. a) (reply 0 0))
-
 -- ---- all three
 
 -- what checks 1, 2 and 3 leave
@@ -212,6 +137,51 @@ pub numbered : (chambers store : List ℕ) → Numbered (tableChecks chambers st
 numbered chambers store =
     more (λ (e : _≡_ {A = ℕ} 1 0). omega arith) (more (λ (e : _≡_ {A = ℕ} 2 0). omega arith) (more (λ (e : _≡_ {A = ℕ} 3 0). omega arith) none))
 
+-- ---- the other way round: sound tables pass
+
+module _ (chambers store : List ℕ) where
+  →lengths : Lengths chambers store → lengthsOk chambers store ≡ true
+  →lengths l = lengths-store chambers store (omega (arith, l .whole)) (l .few) ∙ eq-eqb _ _ (l .long)
+
+→in-range : (side : ℕ) → InRange side → sideOk side ≡ true
+unfolding sideOk
+→in-range side h = and-both (ltb 0 side) (leb side 65535) (lt-ltb _ _ (h .some)) (le-leb _ _ (h .most))
+
+→sides : (whd : WidthHeightDepth) → SidesInRange whd → sidesOk whd ≡ true
+→sides whd h =
+    and-both (sideOk (whd .width)) (sideOk (whd .height) && sideOk (whd .depth)) (→in-range _ (h .width-ok))
+    (and-both (sideOk (whd .height)) (sideOk (whd .depth)) (→in-range _ (h .height-ok)) (→in-range _ (h .depth-ok)))
+
+→id : (chambers : List ℕ) (i : ℕ) → ShapesSound chambers → i < chamberCount chambers → idOk chambers i ≡ true
+unfolding idOk
+→id chambers zero h l = refl
+→id chambers (suc i) h l = lt-ltb _ _ (h .rising i l)
+
+→shape : (chambers : List ℕ) (i : ℕ) → ShapesSound chambers → i < chamberCount chambers → shapeOk chambers i ≡ true
+unfolding shapeOk
+→shape chambers i h l = and-both (idOk chambers i) (sidesOk (chamberAt chambers i .whd)) (→id chambers i h l) (→sides _ (h .sides i l))
+
+→chamber : (chambers : List ℕ) (i : ℕ) → ShapesSound chambers → chamberAt chambers i .count ≤ 128 → i < chamberCount chambers → chamberOk chambers i ≡ true
+unfolding chamberOk
+→chamber chambers i h c l = and-both (shapeOk chambers i) (leb (chamberAt chambers i .count) 128) (→shape chambers i h l) (le-leb _ _ c)
+
+→sections : (chambers store : List ℕ) (i : ℕ) → AllInside chambers store → i < chamberCount chambers → badSections chambers store i ≡ false
+unfolding badSections
+→sections chambers store i h l =
+    none-any (chamberAt chambers i .count) (outsideAt (chamberAt chambers i .whd) (partAt store i))
+    (record { at = λ j b. ap not (→inside (chamberAt chambers i .whd) (sectionAt (partAt store i) j) (h .inside i j l b)) })
+
+module _ (chambers store : List ℕ) where
+  pub tables-sound : Sound chambers store → answerOf (tableChecks chambers store) (reply 0 0) ≡ reply 0 0
+  tables-sound h =
+      let l : Lengths chambers store = record { few = h .shaped .few; whole = h .shaped .whole; long = h .shaped .long } in
+      let p : lowest (chamberCount chambers) (badChamber chambers) ≡ chamberCount chambers =
+      lowest-none (chamberCount chambers) (badChamber chambers)
+      (record { at = λ i b. ap not (→chamber chambers i (h .shapes-ok) (h .shaped .counted .counts i b) b) }) in
+      let q : lowest (chamberCount chambers) (badSections chambers store) ≡ chamberCount chambers =
+      lowest-none (chamberCount chambers) (badSections chambers store) (record { at = λ i b. →sections chambers store i (h .all-in) b }) in
+      sym (tables-pass chambers store (→lengths chambers store l) _ refl (omega arith) _ refl (omega arith))
+
 -- where the three checks answer 0 the tables are sound
 pub sound-tables : (chambers store : List ℕ) → answerOf (tableChecks chambers store) (reply 0 0) .number ≡ 0 → Sound chambers store
 sound-tables chambers store z =
@@ -227,3 +197,8 @@ sound-tables chambers store z =
     (not-false (lengthsOk chambers store) (first-passes c1 (c2 ∷ c3 ∷ []) r (numbered chambers store) z))
     (no-fault (chamberCount chambers) (badChamber chambers) (first-passes c2 (c3 ∷ []) r n2 z1))
     (no-fault (chamberCount chambers) (badSections chambers store) (first-passes c3 [] r n3 z2))
+
+-- checks 1 to 3 pass exactly where the tables are sound
+pub tables-exact : (chambers store : List ℕ) → (answerOf (tableChecks chambers store) (reply 0 0) ≡ reply 0 0) ↔ Sound chambers store
+tables-exact chambers store =
+    (λ e. sound-tables chambers store (ap (λ (r : Reply). r .number) e), tables-sound chambers store)

@@ -1,7 +1,6 @@
 -- Fresh chambers.
 use Prim.Native.Nat.{ℕ}
 use mathlib.Core.List.{List, [], _∷_, map}
-use Rattle.bin_section.specs.declared.section.BinSection.{BinSection}
 use Rattle.bin_section.specs.Section.{wholeSection}
 use Rattle.bin_section.specs.Replies.{reply, inOrder}
 use Rattle.target_bin.specs.declared.chamber.TargetBin.{TargetBin}

@@ -1,4 +1,3 @@
-use native.Mathlib.Omega.{arith}
 use mathlib.Core.List.{List}
 use Rattle.bin_section.specs.declared.section.BinSection.{BinSection}
 use Rattle.bin_section.specs.Section.{sectionAt}

@@ -1,9 +1,9 @@
 use denote.Ref.{now}
 use Rattle.target_bin.specs.declared.chamber.TargetBin.{TargetBin}
 use native.Mathlib.Omega.{arith}
-use mathlib.Core.Path.{_≡_, sym, ap, _∙_}
+use mathlib.Core.Path.{ap}
 use Rattle.target_bin.proofs.Parts.{part-room}
-use Rattle.target_bin.proofs.Passing.{bad-is}
+use Rattle.target_bin.proofs.Checking.{bad-is}
 use borrow.Author.Needs.{needs}
 use Rattle.target_bin.proofs.checks.bad_sections.Statement.{statement}
 use Rattle.target_bin.proofs.checks.bad_sections.Tie as tie

@@ -1,10 +1,11 @@
 use native.Mathlib.Omega.{arith}
-use mathlib.Core.Path.{_≡_, sym, ap, _∙_}
+use mathlib.Core.Path.{_≡_, sym, _∙_}
 use mathlib.Core.Bool.{true}
 use denote.Ref.{now}
 use borrow.Author.Tests.{not-true, not-false}
 use Rattle.target_bin.specs.Checks.{lengthsOk}
-use Rattle.target_bin.proofs.Passing.{lengths, counted, none-found, tables-lengths, tables-chamber, tables-section, tables-pass}
+use Rattle.target_bin.proofs.Checking.{none-found, tables-lengths, tables-chamber, tables-section, tables-pass}
+use Rattle.target_bin.proofs.Passing.{lengths, counted}
 use borrow.Author.Needs.{needs}
 use Rattle.target_bin.proofs.checks.check_tables.Statement.{statement}
 use Rattle.target_bin.proofs.checks.check_tables.Tie as tie

@@ -1,12 +1,10 @@
-use Prim.Native.Nat.{ℕ, _≤_, _/_, _-_}
+use Prim.Native.Nat.{_≤_, _-_}
 use mathlib.Core.Path.{_≡_, sym, ap, _∙_}
-use mathlib.Core.Bool.{Bool, not}
-use mathlib.Core.List.{List}
-use lib.ListN.{length}
+use mathlib.Core.Bool.{not}
 use borrow.Author.Needs.{needs}
 use Rattle.lists.proofs.Lowests.{None, none-zero, none-more, lowest-here, lowest-end}
 use Rattle.target_bin.specs.Chambers.{chamberCount}
-use Rattle.target_bin.specs.Checks.{shapeOk, badShape}
+use Rattle.target_bin.specs.Checks.{badShape}
 use Rattle.target_bin.proofs.checks.first_bad_shape.Statement.{statement}
 use Rattle.target_bin.proofs.checks.first_bad_shape.Tie as tie
 

@@ -1,5 +1,5 @@
 use mathlib.Core.Path.{sym}
-use Rattle.target_bin.proofs.Passing.{id-first, id-later}
+use Rattle.target_bin.proofs.Checking.{id-first, id-later}
 use borrow.Author.Needs.{needs}
 use Rattle.target_bin.proofs.checks.id_ok.Statement.{statement}
 use Rattle.target_bin.proofs.checks.id_ok.Tie as tie

@@ -1,4 +1,4 @@
-use Rattle.target_bin.proofs.Passing.{lengths-odd, lengths-many, lengths-store}
+use Rattle.target_bin.proofs.Checking.{lengths-odd, lengths-many, lengths-store}
 use mathlib.Core.Path.{sym}
 use borrow.Author.Needs.{needs}
 use Rattle.target_bin.proofs.checks.lengths_ok.Statement.{statement}

@@ -1,15 +1,13 @@
-use mathlib.Core.List.{[], _∷_}
 use native.Mathlib.Omega.{arith}
-use mathlib.Core.List.{List}
 use lib.ListN.{length}
-use Prim.Native.Nat.{ℕ, _*_}
+use Prim.Native.Nat.{_*_}
 use denote.Ref.{now}
 use Rattle.lists.specs.Tab.{put}
 use Rattle.target_bin.specs.declared.chamber.TargetBin.{TargetBin}
 use Rattle.target_bin.specs.Store.{partOf}
 use Rattle.target_bin.proofs.Parts.{came-back, length-partOf}
 use Rattle.target_bin.proofs.Freshening.{wholeOf, fresh-record}
-use mathlib.Core.Path.{_≡_, ap, _∙_}
+use mathlib.Core.Path.{ap, _∙_}
 use borrow.Author.Needs.{needs}
 use Rattle.target_bin.proofs.freshen.freshen.Statement.{statement}
 use Rattle.target_bin.proofs.freshen.freshen.Tie as tie

@@ -1,5 +1,5 @@
 use mathlib.Core.List.{[], _∷_}
-use mathlib.Core.Path.{_≡_, ap, _∙_}
+use mathlib.Core.Path.{ap, _∙_}
 use Rattle.bin_section.specs.declared.section.BinSection.{BinSection}
 use Rattle.target_bin.specs.Store.{partOf}
 use Rattle.target_bin.proofs.Freshening.{fresh-part}

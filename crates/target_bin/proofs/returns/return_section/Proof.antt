@@ -1,4 +1,4 @@
-use mathlib.Core.Path.{_≡_, sym, ap, _∙_}
+use mathlib.Core.Path.{sym, ap, _∙_}
 use Rattle.bin_section.specs.declared.reply.Reply.{Reply}
 use Rattle.target_bin.proofs.Passing.{sound-tables}
 use Rattle.target_bin.proofs.Returning.{return-tables, return-past}
@@ -33,7 +33,7 @@ returns-2 : tie.Need-returns-2
 returns-2 c =
     let t = c .before .before .before .before in
     let e = t .before .before .before in
-    t .return-to .ensures ∙ return-past _ _ _ _ _ (e .before .before .check-tables .ensures) (e .if1 .left)
+    return-past _ _ _ _ _ (e .before .before .check-tables .ensures) _ (t .return-to .ensures) (e .if1 .left)
 
 pub return-section-spec : {M : Type 1} → statement M
 return-section-spec =

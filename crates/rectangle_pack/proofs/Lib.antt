@@ -1,0 +1,7 @@
+pub mod Orders
+pub mod Serving
+pub mod Tables
+pub mod Trials
+pub mod Placings
+pub mod Room
+pub mod Left

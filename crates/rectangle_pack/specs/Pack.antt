@@ -1,0 +1,81 @@
+-- Pack: its checks in their order, and what it leaves in every lent table.
+use Prim.Native.Nat.{ℕ, _+_, _*_, _/_, _%_}
+use mathlib.Core.List.{List, [], _∷_, _++_}
+use mathlib.Core.Bool.{Bool, _&&_, not}
+use lib.Dec.{ltb, leb, eqb}
+use lib.ListN.{length, getD, replicate}
+use Rattle.lists.specs.Tab.{tab}
+use Rattle.bin_section.specs.declared.reply.Reply.{Reply}
+use Rattle.bin_section.specs.declared.section.BinSection.{BinSection}
+use Rattle.bin_section.specs.Replies.{Check, once, each, inOrder}
+use Rattle.target_bin.specs.declared.chamber.TargetBin.{TargetBin}
+use Rattle.target_bin.specs.Chambers.{bin, chamberAt, chamberCount, tableOf}
+use Rattle.target_bin.specs.Store.{freeOf, storeOf}
+use Rattle.target_bin.specs.Checks.{tableChecks}
+use Rattle.grouped_rects_to_place.specs.Rect.{rectAt}
+use Rattle.grouped_rects_to_place.specs.Checks.{badRect, repeatedId}
+use Rattle.grouped_rects_to_place.specs.Groups.{groupsOf}
+use Rattle.rectangle_pack.specs.Order.{trialOrder}
+use Rattle.rectangle_pack.specs.Seats.{Seat, unplaced, placementsOf}
+use Rattle.rectangle_pack.specs.Packing.{State, state, Ended, packGroups}
+
+-- how many rectangles a table has
+abbrev pub rectCount : List ℕ → ℕ
+rectCount rects = length rects / 5
+
+-- 1: "Rectangle record, 5 words", "At most 63 in a call", and the placement table is "5 words a rectangle"
+unfoldable pub rectLengthsOk : List ℕ → List ℕ → Bool
+rectLengthsOk rects placements =
+    eqb (length rects % 5) 0 && (leb (rectCount rects) 63 && eqb (length placements) (rectCount rects * 5))
+
+-- 6: "free count + 2 x rectangles of the call is above 128"
+unfoldable pub noRoom : List ℕ → ℕ → ℕ → Bool
+noRoom chambers n k = ltb 128 (chamberAt chambers k .count + 2 * n)
+
+-- "Pack: 1 to 7." The seventh is the packing itself. Check 1 has two halves, the rectangles' tables and the chambers'.
+unfoldable pub rectChecks : List ℕ → List ℕ → List Check
+rectChecks chambers rects =
+    each 4 (rectCount rects) (badRect (rectAt rects))
+    ∷ each 5 (rectCount rects) (repeatedId (rectAt rects))
+    ∷ each 6 (chamberCount chambers) (noRoom chambers (rectCount rects))
+    ∷ []
+
+unfoldable pub packChecks : List ℕ → List ℕ → List ℕ → List ℕ → List Check
+packChecks chambers store rects placements =
+    once 1 (not (rectLengthsOk rects placements)) ∷ (tableChecks chambers store ++ rectChecks chambers rects)
+
+-- the free sections as they are lent, and every rectangle unplaced
+unfoldable pub start : List ℕ → List ℕ → List ℕ → State
+start chambers store rects = state (freeOf chambers store) (replicate (rectCount rects) unplaced)
+
+-- the packing of the groups in their order
+unfoldable pub packing : List ℕ → List ℕ → List ℕ → Ended
+packing chambers store rects =
+    packGroups (trialOrder chambers) (λ k. chamberAt chambers k .id) (rectAt rects) (groupsOf (rectCount rects) (rectAt rects))
+    (start chambers store rects)
+
+-- the chamber records, with the counts of the free sections
+unfoldable pub binsWith : List ℕ → List (List BinSection) → List TargetBin
+binsWith chambers frees =
+    tab (chamberCount chambers) (λ k. bin (chamberAt chambers k .id) (chamberAt chambers k .whd) (length (getD frees k [])))
+
+pub record PackOutcome : Type 0 where
+  pub answer : Reply
+  pub chambers : List ℕ
+  pub store : List ℕ
+  pub placements : List ℕ
+
+abbrev pub packOutcome : Reply → List ℕ → List ℕ → List ℕ → PackOutcome
+packOutcome answer chambers store placements =
+    record { answer = answer; chambers = chambers; store = store; placements = placements }
+
+-- "After pack answers 0 or 7, words past each count are 0 and every placement record is written."
+unfoldable pub written : List ℕ → Ended → PackOutcome
+written chambers e =
+    packOutcome (e .answer) (tableOf (binsWith chambers (e .after .frees))) (storeOf (e .after .frees)) (placementsOf (e .after .seats))
+
+-- "Every refusal but 7 writes nothing."
+unfoldable pub packOf : List ℕ → List ℕ → List ℕ → List ℕ → PackOutcome
+packOf chambers store rects placements =
+    inOrder (packChecks chambers store rects placements) (λ r. packOutcome r chambers store placements)
+    (written chambers (packing chambers store rects))

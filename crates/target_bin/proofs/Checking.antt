@@ -1,0 +1,96 @@
+-- The cases of checks 1 to 3, as the code comes to them.
+use Prim.Native.Nat.{ℕ, zero, suc, _+_, _*_, _-_, _%_, _≤_, _<_}
+use mathlib.Core.Path.{_≡_, refl, sym, ap, _∙_}
+use mathlib.Core.List.{List, [], _∷_}
+use mathlib.Core.Bool.{Bool, true, false, not}
+use native.Mathlib.Omega.{arith}
+use borrow.Author.Tests.{lt-ltb, le-ltb, eq-eqb, ne-eqb, le-leb, lt-leb}
+use lib.ListN.{length, take, drop}
+use lib.Dec.{ltb, leb, eqb}
+use Rattle.lists.specs.Lowest.{lowest, anyBelow}
+use Rattle.lists.proofs.Flags.{and-no-first, and-no-second}
+use Rattle.lists.proofs.Lowests.{None, none-of-lowest}
+use Rattle.bin_section.specs.Replies.{reply}
+use Rattle.sections.specs.Inside.{outsideAt}
+use Rattle.sections.proofs.Bounding.{any-lowest}
+use Rattle.target_bin.specs.declared.chamber.TargetBin.{TargetBin}
+use Rattle.target_bin.specs.Chambers.{chamberAt, chamberCount}
+use Rattle.target_bin.specs.Store.{partAt}
+use Rattle.target_bin.specs.Checks.{lengthsOk, idOk, badChamber, badSections, check1, check2, check3, tableChecks}
+use Rattle.target_bin.proofs.Parts.{lent-part}
+use Rattle.target_bin.proofs.Ordering.{fires, passes, all-done, answerOf}
+
+-- ---- 1: a table's length
+module _ (chambers store : List ℕ) where
+  pub lengths-odd : (length chambers % 5 ≡ 0 → ⊥) → lengthsOk chambers store ≡ false
+  unfolding lengthsOk
+  lengths-odd ne = and-no-first (eqb (length chambers % 5) 0) _ (ne-eqb _ _ ne)
+
+  pub lengths-many : 16 < chamberCount chambers → lengthsOk chambers store ≡ false
+  unfolding lengthsOk
+  lengths-many h = and-no-second (eqb (length chambers % 5) 0) _ (and-no-first (leb (chamberCount chambers) 16) _ (lt-leb _ _ h))
+
+  pub lengths-store : length chambers % 5 ≡ 0 → chamberCount chambers ≤ 16 → lengthsOk chambers store ≡ eqb (length store) (chamberCount chambers * 768)
+  unfolding lengthsOk
+  lengths-store e h = rw (eq-eqb (length chambers % 5) 0 e, le-leb (chamberCount chambers) 16 h)
+
+-- ---- 2: an id beside its predecessor
+pub id-first : (chambers : List ℕ) (i : ℕ) → i ≡ 0 → idOk chambers i ≡ true
+unfolding idOk
+id-first chambers i e = rw e
+
+pub id-later : (chambers : List ℕ) (i : ℕ) (a b : TargetBin) → (i ≡ 0 → ⊥) → a ≡ chamberAt chambers (i - 1) → b ≡ chamberAt chambers i → ltb (a .id) (b .id) ≡ idOk chambers i
+unfolding idOk
+id-later chambers zero a b ne p q = absurd (ne refl)
+id-later chambers (suc n) a b ne p q = let e : suc n - 1 ≡ n = omega arith in let p′ : a ≡ chamberAt chambers n = p ∙ ap (chamberAt chambers) e in rw (p′, q)
+
+-- ---- 3: one chamber's sections
+pub bad-is : (chambers store : List ℕ) (i r : ℕ) (b : TargetBin) → b ≡ chamberAt chambers i → r ≡ lowest (b .count) (outsideAt (b .whd) (take (i * 768 + 768 - i * 768) (drop (i * 768) store))) → ltb r (b .count) ≡ badSections chambers store i
+unfolding badSections
+bad-is chambers store i r b read found =
+    let q : ltb r (b .count) ≡ anyBelow (b .count) (outsideAt (b .whd) (partAt store i)) =
+    ap (λ (m : ℕ). ltb m (b .count)) (found ∙ ap (λ (p : List ℕ). lowest (b .count) (outsideAt (b .whd) p)) (lent-part store i))
+    ∙ sym (any-lowest (b .count) (outsideAt (b .whd) (partAt store i))) in
+    q ∙ rw read
+
+-- ---- the three in their order
+
+-- a loop that passed every entry
+pub none-found : (n r : ℕ) (f : ℕ → Bool) → r ≡ lowest n f → n ≤ r → None n f
+none-found n r f e h = none-of-lowest n f (omega arith)
+
+-- a check of each entry that fires, and one that does not
+pub found-fires : (n r : ℕ) (f : ℕ → Bool) → r ≡ lowest n f → r < n → ltb (lowest n f) n ≡ true
+found-fires n r f e h = lt-ltb (lowest n f) n (omega arith)
+
+pub found-passes : (n r : ℕ) (f : ℕ → Bool) → r ≡ lowest n f → n ≤ r → ltb (lowest n f) n ≡ false
+found-passes n r f e h = le-ltb (lowest n f) n (omega arith)
+
+module _ (chambers store : List ℕ) where
+  pub tables-lengths : lengthsOk chambers store ≡ false → reply 1 0 ≡ answerOf (tableChecks chambers store) (reply 0 0)
+  tables-lengths e =
+      sym (fires (λ a. a) (reply 0 0) (check1 chambers store) (check2 chambers ∷ check3 chambers store ∷ []) (ap not e))
+
+  module _ (ok : lengthsOk chambers store ≡ true) where
+    past1 : answerOf (tableChecks chambers store) (reply 0 0) ≡ answerOf (check2 chambers ∷ check3 chambers store ∷ []) (reply 0 0)
+    past1 = passes (λ a. a) (reply 0 0) (check1 chambers store) (check2 chambers ∷ check3 chambers store ∷ []) (ap not ok)
+
+    pub tables-chamber : (r : ℕ) → r ≡ lowest (chamberCount chambers) (badChamber chambers) → r < chamberCount chambers → reply 2 r ≡ answerOf (tableChecks chambers store) (reply 0 0)
+    tables-chamber r e h =
+        ap (reply 2) e
+        ∙ sym (past1 ∙ fires (λ a. a) (reply 0 0) (check2 chambers) (check3 chambers store ∷ []) (found-fires _ r (badChamber chambers) e h))
+
+    module _ (r : ℕ) (e : r ≡ lowest (chamberCount chambers) (badChamber chambers)) (h : chamberCount chambers ≤ r) where
+      past2 : answerOf (tableChecks chambers store) (reply 0 0) ≡ answerOf (check3 chambers store ∷ []) (reply 0 0)
+      past2 =
+          past1 ∙ passes (λ a. a) (reply 0 0) (check2 chambers) (check3 chambers store ∷ []) (found-passes _ r (badChamber chambers) e h)
+
+      pub tables-section : (q : ℕ) → q ≡ lowest (chamberCount chambers) (badSections chambers store) → q < chamberCount chambers → reply 3 q ≡ answerOf (tableChecks chambers store) (reply 0 0)
+      tables-section q e′ h′ =
+          ap (reply 3) e′ ∙ sym (past2 ∙ fires (λ a. a) (reply 0 0) (check3 chambers store) [] (found-fires _ q (badSections chambers store) e′ h′))
+
+      pub tables-pass : (q : ℕ) → q ≡ lowest (chamberCount chambers) (badSections chambers store) → chamberCount chambers ≤ q → reply 0 0 ≡ answerOf (tableChecks chambers store) (reply 0 0)
+      tables-pass q e′ h′ =
+          sym (past2
+          ∙ passes (λ a. a) (reply 0 0) (check3 chambers store) [] (found-passes _ q (badSections chambers store) e′ h′)
+          ∙ all-done (λ a. a) (reply 0 0))

@@ -1,0 +1,273 @@
+-- What a return leaves, as lists: one count more and the box among the free sections; and where it is accepted.
+use Prim.Native.Nat.{ℕ, suc, _+_, _*_, _-_, _/_, _≤_, _<_}
+use mathlib.Core.Path.{_≡_, refl, sym, ap, ap₂, _∙_}
+use mathlib.Core.Logic.{_↔_}
+use mathlib.Core.List.{List, [], _∷_, _++_}
+use mathlib.Core.Bool.{not, true, false, Bool}
+use native.Mathlib.Decide.{ℕ-discrete}
+use native.Mathlib.Omega.{arith}
+use borrow.Author.Tests.{eqb-true, eqb-false, ltb-true, not-false, lt-ltb, le-ltb, ne-eqb}
+use lib.ListN.{length, set, length-set}
+use lib.Dec.{eqb}
+use Rattle.lists.specs.Lowest.{lowest, anyBelow}
+use Rattle.lists.specs.Tab.{put}
+use Rattle.lists.proofs.Tabs.{length-put}
+use Rattle.lists.proofs.Flags.{true-false}
+use Rattle.lists.proofs.Lowests.{lowest-fires, lowest-none}
+use Rattle.bin_section.specs.declared.section.BinSection.{BinSection}
+use Rattle.bin_section.specs.declared.reply.Reply.{Reply}
+use Rattle.bin_section.specs.Section.{sectionAt, wordsOf}
+use Rattle.bin_section.specs.Sides.{sides}
+use Rattle.bin_section.specs.Cell.{SharesCell}
+use Rattle.bin_section.proofs.Sharing.{shares→overlaps, overlaps→shares}
+use Rattle.bin_section.specs.Replies.{Check, reply, once, each, inOrder}
+use Rattle.sections.specs.Sections.{sections}
+use Rattle.sections.specs.Inside.{insideOf, sharesAt}
+use Rattle.sections.proofs.Bounding.{Inside, inside→, any-lowest, →inside}
+use Rattle.sections.proofs.Moves.{appended}
+use Rattle.sections.proofs.Reading.{sectionAt-put-same, sectionAt-put-other}
+use Rattle.target_bin.specs.declared.chamber.TargetBin.{TargetBin}
+use Rattle.target_bin.specs.Chambers.{bin, chamberAt, chamberCount, chambersOf, hasId, chamberOf}
+use Rattle.target_bin.specs.Store.{partAt, freeAt, freeOf}
+use Rattle.target_bin.specs.Lending.{OnlyIn}
+use Rattle.target_bin.specs.Checks.{badChamber, badSections, check1, check2, check3, tableChecks}
+use Rattle.target_bin.specs.Outcome.{Outcome, outcome, refused}
+use Rattle.target_bin.specs.Return.{pushChecks, returnChecks, stored, returned, returnOf}
+use Rattle.target_bin.proofs.Ordering.{Numbered, none, more, answerOf, AllPass, and, no-more, all-pass, in-map, alone-passes, alone-fires, passes, all-done, row-passes}
+use Rattle.target_bin.proofs.Tables.{chamberAt-set-same, chamberAt-set-other, chambers-set}
+use Rattle.target_bin.proofs.Parts.{length-partAt, partAt-put-same, only-in, free-set}
+use Rattle.target_bin.proofs.Passing.{Sound, no-fault, sound, numbered, tables-sound}
+use Rattle.target_bin.proofs.Putting.{put-in-part}
+
+-- ---- an accepted return
+
+-- the chamber table with one count more at chamber k
+abbrev pub chambersAfter : List ℕ → ℕ → List ℕ
+chambersAfter chambers k = set chambers (k * 5 + 4) (chamberAt chambers k .count + 1)
+
+-- the store with the box after the last section of chamber k
+abbrev pub storeAfter : List ℕ → List ℕ → ℕ → BinSection → List ℕ
+storeAfter chambers store k box = put store (k * 768 + chamberAt chambers k .count * 6) (wordsOf box)
+
+module _ (chambers store : List ℕ) (k : ℕ) (box : BinSection) (sound : Sound chambers store) (low : k < chamberCount chambers) (small : chamberAt chambers k .count < 128) where
+  abbrev n : ℕ
+  n = chamberAt chambers k .count
+
+  abbrev after : List ℕ
+  after = chambersAfter chambers k
+
+  abbrev left : List ℕ
+  left = storeAfter chambers store k box
+
+  in-table : k * 5 + 5 ≤ length chambers
+  in-table = omega (arith, sound .shaped .whole)
+
+  in-store : (k + 1) * 768 ≤ length store
+  in-store = omega (arith, sound .shaped .long)
+
+  -- the chambers are as before, but for the one count, which is one more
+  pub stored-chambers : chambersOf after ≡ set (chambersOf chambers) k (bin (chamberAt chambers k .id) (chamberAt chambers k .whd) (n + 1))
+  stored-chambers = chambers-set chambers k (n + 1) in-table
+
+  abbrev Q : List ℕ
+  Q = put (partAt store k) (n * 6) (wordsOf box)
+
+  long-Q : length Q ≡ 768
+  long-Q = length-put (partAt store k) (n * 6) (wordsOf box) (omega (arith, length-partAt store k in-store)) ∙ length-partAt store k in-store
+
+  as-part : left ≡ put store (k * 768) Q
+  unfolding partAt
+  as-part = sym (put-in-part store (k * 768) 768 (omega (arith, in-store)) (n * 6) (wordsOf box) (omega arith))
+
+  pub stored-only : OnlyIn k store left
+  stored-only = rw as-part (only-in store k Q in-store long-Q)
+
+  pub stored-part : partAt left k ≡ Q
+  stored-part = ap (λ (w : List ℕ). partAt w k) as-part ∙ partAt-put-same store k Q in-store long-Q
+
+  same-count : chamberAt after k .count ≡ n + 1
+  same-count = ap (λ (b : TargetBin). b .count) (chamberAt-set-same chambers k (n + 1) in-table)
+
+  -- the free sections are as before, but for the one chamber's, where the box stands last
+  pub stored-free : freeOf after left ≡ set (freeOf chambers store) k (freeAt chambers store k ++ (box ∷ []))
+  unfolding freeAt
+  stored-free =
+      free-set chambers after store left k (sections (partAt store k) n ++ (box ∷ []))
+      (ap (λ (m : ℕ). m / 5) (length-set chambers (k * 5 + 4) (n + 1)))
+      low stored-only
+      (ap₂ (λ (w : List ℕ) (m : ℕ). sections w m) stored-part same-count
+      ∙ appended (partAt store k) n box (omega (arith, length-partAt store k in-store)) .free)
+      (λ i ne. ap (λ (b : TargetBin). b .count) (chamberAt-set-other chambers k (n + 1) in-table i ne))
+
+  -- ---- the tables are sound again
+
+  same-bin : (i : ℕ) → Dec (i ≡ k) → (chamberAt after i .id ≡ chamberAt chambers i .id) × (chamberAt after i .whd ≡ chamberAt chambers i .whd)
+  same-bin i (yes e) =
+      let p = chamberAt-set-same chambers k (n + 1) in-table in
+      rw e ((ap (λ (b : TargetBin). b .id) p, ap (λ (b : TargetBin). b .whd) p))
+  same-bin i (no ne) =
+      let p = chamberAt-set-other chambers k (n + 1) in-table i ne in
+      (ap (λ (b : TargetBin). b .id) p, ap (λ (b : TargetBin). b .whd) p)
+
+  same-id : (i : ℕ) → chamberAt after i .id ≡ chamberAt chambers i .id
+  same-id i = same-bin i (ℕ-discrete i k) .0
+
+  same-whd : (i : ℕ) → chamberAt after i .whd ≡ chamberAt chambers i .whd
+  same-whd i = same-bin i (ℕ-discrete i k) .1
+
+  same-many : chamberCount after ≡ chamberCount chambers
+  same-many = ap (λ (m : ℕ). m / 5) (length-set chambers (k * 5 + 4) (n + 1))
+
+  count-small : (i : ℕ) → i < chamberCount chambers → Dec (i ≡ k) → chamberAt after i .count ≤ 128
+  count-small i h (yes e) = rw e (omega (arith, same-count))
+  count-small i h (no ne) = omega (arith, ap (λ (b : TargetBin). b .count) (chamberAt-set-other chambers k (n + 1) in-table i ne), sound .shaped .counted .counts i h)
+
+  module _ (box-in : Inside (chamberAt chambers k .whd) box) where
+    last-in : (j : ℕ) → j < n + 1 → Dec (j ≡ n) → Inside (chamberAt chambers k .whd) (sectionAt Q j)
+    last-in j l (yes e) = rw (e, sectionAt-put-same (partAt store k) n box (omega (arith, length-partAt store k in-store))) box-in
+    last-in j l (no ne) =
+        rw (sectionAt-put-other (partAt store k) n box (omega (arith, length-partAt store k in-store)) j ne) (sound .all-in .inside k j low (omega arith))
+
+    section-in : (i j : ℕ) → i < chamberCount chambers → j < chamberAt after i .count → Dec (i ≡ k) → Inside (chamberAt chambers i .whd) (sectionAt (partAt left i) j)
+    section-in i j h l (yes e) = rw (e, stored-part) (last-in j (omega (arith, same-count, ap (λ (m : ℕ). chamberAt after m .count) e)) (ℕ-discrete j n))
+    section-in i j h l (no ne) =
+        rw (stored-only .others i ne)
+        (sound .all-in .inside i j h (omega (arith, ap (λ (b : TargetBin). b .count) (chamberAt-set-other chambers k (n + 1) in-table i ne))))
+
+    pub stored-sound : Sound after left
+    stored-sound =
+        record {
+          shaped = record {
+            few = omega (arith, same-many, sound .shaped .few);
+            whole = omega (arith, same-many, length-set chambers (k * 5 + 4) (n + 1), sound .shaped .whole);
+            long = omega (arith, same-many, length-put store (k * 768 + n * 6) (wordsOf box) (omega (arith, in-store)), sound .shaped .long);
+            counted = record { counts = λ i h. count-small i (omega (arith, same-many)) (ℕ-discrete i k) };
+          };
+          shapes-ok = record {
+            rising = λ i h. omega (arith, same-id i, same-id (suc i), sound .shapes-ok .rising i (omega (arith, same-many)));
+            sides = λ i h. rw (same-whd i) (sound .shapes-ok .sides i (omega (arith, same-many)));
+          };
+          all-in = record {
+            inside = λ i j h l. rw (same-whd i) (section-in i j (omega (arith, same-many)) l (ℕ-discrete i k));
+          };
+        }
+
+-- ---- what the replies of a return mean
+
+module _ (chambers store : List ℕ) (id : ℕ) (box : BinSection) where
+  abbrev here : ℕ
+  here = chamberOf chambers id
+
+  abbrev there : TargetBin
+  there = chamberAt chambers here
+
+  -- where a return is accepted
+  pub record Accepted : Type 0 where
+    pub sound-before : Sound chambers store
+    pub known : chamberOf chambers id < chamberCount chambers
+    pub named : chamberAt chambers (chamberOf chambers id) .id ≡ id
+    pub box-in : Inside (chamberAt chambers (chamberOf chambers id) .whd) box
+    pub apart : (j : ℕ) → j < chamberAt chambers (chamberOf chambers id) .count → SharesCell (sectionAt (partAt store (chamberOf chambers id)) j) box → ⊥
+    pub room : chamberAt chambers (chamberOf chambers id) .count < 128
+
+  c8 : Check
+  c8 = once 8 (not (anyBelow (chamberCount chambers) (hasId chambers id)))
+
+  c9 : Check
+  c9 = once 9 (not (insideOf (there .whd) box))
+
+  c10 : Check
+  c10 = each 10 (there .count) (sharesAt box (partAt store here))
+
+  c11 : Check
+  c11 = once 11 (eqb (there .count) 128)
+
+  row : List Check
+  row = check1 chambers store ∷ check2 chambers ∷ check3 chambers store ∷ c8 ∷ c9 ∷ c10 ∷ c11 ∷ []
+
+  row-numbered : Numbered row
+  unfolding row c8 c9 c10 c11
+  row-numbered =
+      more (λ (e : _≡_ {A = ℕ} 1 0). omega arith) (more (λ (e : _≡_ {A = ℕ} 2 0). omega arith)
+      (more (λ (e : _≡_ {A = ℕ} 3 0). omega arith) (more (λ (e : _≡_ {A = ℕ} 8 0). omega arith)
+      (more (λ (e : _≡_ {A = ℕ} 9 0). omega arith) (more (λ (e : _≡_ {A = ℕ} 10 0). omega arith)
+      (more (λ (e : _≡_ {A = ℕ} 11 0). omega arith) none))))))
+
+  row-of : returnOf chambers store id box ≡ inOrder row (refused chambers store) (stored chambers store here (there .count) box)
+  unfolding returnOf returned returnChecks pushChecks row c8 c9 c10 c11
+  row-of = refl
+
+  row-answer : returnOf chambers store id box .reply ≡ answerOf row (reply 0 (there .count))
+  row-answer = ap (λ (o : Outcome). o .reply) row-of ∙ in-map (λ o. o .reply) (refused chambers store) (stored chambers store here (there .count) box) row
+
+  from-row : AllPass row → Accepted
+  unfolding row c8 c9 c10 c11 chamberOf
+  from-row (and p1 (and p2 (and p3 (and p8 (and p9 (and p10 (and p11 no-more))))))) =
+      let s : Sound chambers store =
+      sound chambers store (not-false _ p1) (no-fault (chamberCount chambers) (badChamber chambers) p2) (no-fault (chamberCount chambers) (badSections chambers store) p3) in
+      let k : lowest (chamberCount chambers) (hasId chambers id) < chamberCount chambers =
+      ltb-true _ _ (sym (any-lowest (chamberCount chambers) (hasId chambers id)) ∙ not-false _ p8) in
+      let full : there .count ≡ 128 → ⊥ = eqb-false (there .count) 128 p11 in
+      record {
+        sound-before = s;
+        known = k;
+        named = eqb-true _ _ (lowest-fires (chamberCount chambers) (hasId chambers id) k);
+        box-in = inside→ (there .whd) box (not-false _ p9);
+        apart = λ j l h.
+            true-false
+            (sym (shares→overlaps (sectionAt (partAt store here) j) box h) ∙ no-fault (there .count) (sharesAt box (partAt store here)) p10 .at j l);
+        room = omega (arith, full, s .shaped .counted .counts here k);
+      }
+
+  known-fires : chamberOf chambers id < chamberCount chambers → anyBelow (chamberCount chambers) (hasId chambers id) ≡ true
+  unfolding chamberOf
+  known-fires h = any-lowest (chamberCount chambers) (hasId chambers id) ∙ lt-ltb _ _ h
+
+  apart-passes : (j : ℕ) → (SharesCell (sectionAt (partAt store here) j) box → ⊥) → sharesAt box (partAt store here) j ≡ false
+  apart-passes j h = go (sharesAt box (partAt store here) j) refl
+    where
+      go : (b : Bool) → sharesAt box (partAt store here) j ≡ b → sharesAt box (partAt store here) j ≡ false
+      go true e = absurd (h (overlaps→shares (sectionAt (partAt store here) j) box e))
+      go false e = e
+
+  -- what an accepted return leaves
+  pub return-result : Accepted → returnOf chambers store id box ≡ stored chambers store (chamberOf chambers id) (chamberAt chambers (chamberOf chambers id) .count) box
+  unfolding returnOf returned returnChecks pushChecks c8 c9 c10 c11
+  return-result a =
+      let f = refused chambers store in
+      let d = stored chambers store here (there .count) box in
+      let none-shares : lowest (there .count) (sharesAt box (partAt store here)) ≡ there .count =
+      lowest-none (there .count) (sharesAt box (partAt store here)) (record { at = λ j l. apart-passes j (a .apart j l) }) in
+      row-passes f d (reply 0 0) (tableChecks chambers store) (c8 ∷ c9 ∷ c10 ∷ c11 ∷ []) (numbered chambers store)
+      (ap (λ (r : Reply). r .number) (tables-sound chambers store (a .sound-before)))
+      ∙ passes f d c8 (c9 ∷ c10 ∷ c11 ∷ []) (ap not (known-fires (a .known)))
+      ∙ passes f d c9 (c10 ∷ c11 ∷ []) (ap not (→inside (there .whd) box (a .box-in)))
+      ∙ passes f d c10 (c11 ∷ []) (le-ltb (lowest (there .count) (sharesAt box (partAt store here))) (there .count) (omega arith))
+      ∙ passes f d c11 [] (ne-eqb (there .count) 128 (λ e. omega (arith, a .room)))
+      ∙ all-done f d
+
+  -- reply 0 is given exactly there
+  pub return-done : returnOf chambers store id box .reply .number ≡ 0 → Accepted
+  return-done z =
+      from-row (all-pass row (reply 0 (there .count)) row-numbered (sym (ap (λ (r : Reply). r .number) row-answer) ∙ z))
+
+  pub return-exact : (returnOf chambers store id box .reply .number ≡ 0) ↔ Accepted
+  return-exact = (return-done, λ a. ap (λ (o : Outcome). o .reply .number) (return-result a))
+
+  -- any other reply leaves both tables as they were
+  pub return-refusal : (returnOf chambers store id box .reply .number ≡ 0 → ⊥) → returnOf chambers store id box ≡ outcome (returnOf chambers store id box .reply) chambers store
+  return-refusal ne =
+      row-of
+      ∙ alone-fires (refused chambers store) (stored chambers store here (there .count) box) (reply 0 (there .count)) row refl
+      (λ z. ne (ap (λ (r : Reply). r .number) row-answer ∙ z))
+      ∙ ap (refused chambers store) (sym row-answer)
+
+  -- after an accepted return: the chambers, their free sections, and that the tables are sound
+  pub return-chambers : Accepted → chambersOf (returnOf chambers store id box .chambers) ≡ set (chambersOf chambers) (chamberOf chambers id) (bin (chamberAt chambers (chamberOf chambers id) .id) (chamberAt chambers (chamberOf chambers id) .whd) (chamberAt chambers (chamberOf chambers id) .count + 1))
+  return-chambers a = ap (λ (o : Outcome). chambersOf (o .chambers)) (return-result a) ∙ stored-chambers chambers store here box (a .sound-before) (a .known) (a .room)
+
+  pub return-free : Accepted → freeOf (returnOf chambers store id box .chambers) (returnOf chambers store id box .store) ≡ set (freeOf chambers store) (chamberOf chambers id) (freeAt chambers store (chamberOf chambers id) ++ (box ∷ []))
+  return-free a = ap (λ (o : Outcome). freeOf (o .chambers) (o .store)) (return-result a) ∙ stored-free chambers store here box (a .sound-before) (a .known) (a .room)
+
+  pub return-sound : Accepted → Sound (returnOf chambers store id box .chambers) (returnOf chambers store id box .store)
+  return-sound a = rw (return-result a) (stored-sound chambers store here box (a .sound-before) (a .known) (a .room) (a .box-in))
