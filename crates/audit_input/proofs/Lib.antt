@@ -1,3 +1,4 @@
 pub mod Decimals
+pub mod Numerals
 pub mod Reading
 pub mod Writing

@@ -1,4 +1,3 @@
-use denote.Ref.{now}
 use Rattle.audit_input.proofs.Writing.{named, name-whole, name-outside, name-shared, name-gap, name-bad}
 use borrow.Author.Needs.{needs}
 use Rattle.audit_input.proofs.line.write_name.Statement.{statement}
