@@ -5,3 +5,7 @@ pub mod Trials
 pub mod Placings
 pub mod Room
 pub mod Left
+pub mod Checked
+pub mod Tidying
+pub mod Running
+pub mod Ending

@@ -66,7 +66,7 @@ module _ (c st : List ℕ) (m k : ℕ) (ready : Ready c st m) (here : k < chambe
 
 -- ---- the trial on a copy
 
-reaching-same : (a b : List ℕ) (n : ℕ) → sections a n ≡ sections b n → Reaching n b → Reaching n a
+pub reaching-same : (a b : List ℕ) (n : ℕ) → sections a n ≡ sections b n → Reaching n b → Reaching n a
 reaching-same a b n e p =
     record {
       at = λ i h.

@@ -17,8 +17,12 @@ use Rattle.target_bin.specs.Chambers.{chamberAt, chamberCount}
 use Rattle.target_bin.specs.Checks.{Shaped}
 use Rattle.target_bin.specs.Store.{partAt, freeOf}
 use Rattle.grouped_rects_to_place.specs.declared.rect_to_place.RectToPlace.{RectToPlace}
-use Rattle.grouped_rects_to_place.specs.Rect.{rectAt}
-use Rattle.rectangle_pack.specs.Packing.{State, state, rectsAt, trialIn, isWhole, firstWhole, changed}
+use Rattle.bin_section.specs.declared.reply.Reply.{Reply}
+use Rattle.grouped_rects_to_place.specs.Rect.{rectAt, GoodRects}
+use Rattle.rectangle_pack.specs.Packing.{State, state, rectsAt, trialIn, isWhole, firstWhole, changed, Ended, packGroups}
+use Rattle.rectangle_pack.specs.Order.{trialOrder}
+use Rattle.grouped_rects_to_place.specs.Groups.{groupsOf}
+use Rattle.rectangle_pack.specs.Pack.{rectCount}
 use Rattle.rectangle_pack.specs.Seats.{Seat, seated, placementsOf}
 
 -- no side of a chamber is above 65,535
@@ -111,3 +115,32 @@ pub record Grouped (order : List ℕ) (r : ℕ → RectToPlace) (group : List �
       (getD order (firstWhole order r group (freeOf c st)) 0) group (state (freeOf c st) seats))
       c′ st′ p′
   pub none : (seats : List Seat) → b ≡ false → p ≡ placementsOf seats → ChangedTo (state (freeOf c st) seats) c′ st′ p′
+
+-- the sections are as they were, and zeros stand past each count
+pub record Tidied (c st st′ : List ℕ) : Type 0 where
+  pub long : length st′ ≡ length st
+  pub same : (k : ℕ) → k < chamberCount c → sections (partAt st′ k) (chamberAt c k .count) ≡ sections (partAt st k) (chamberAt c k .count)
+  pub clean : Clean c st′
+
+-- the packing of the groups from this state has ended so
+pub record PackedTo (e : Ended) (c : List ℕ) (answer : Reply) (c′ st′ p′ : List ℕ) : Type 0 where
+  pub answers : answer ≡ e .answer
+  pub holds : ChangedTo (e .after) c′ st′ p′
+  pub same : SameShape c c′
+  pub shaped : Shaped c′ st′
+  pub clean : Clean c′ st′
+
+-- what the checks leave
+pub record Passed (c st rects p : List ℕ) : Type 0 where
+  pub ready : Ready c st (rectCount rects)
+  pub small : SmallChambers c
+  pub rects-good : GoodRects rects (rectCount rects)
+  pub rects-long : length rects ≡ rectCount rects * 5
+  pub places-long : length p ≡ length rects
+
+-- the groups of n rectangles are packed from the state that the tables hold
+pub record GroupsPacked (r : ℕ → RectToPlace) (n : ℕ) (answer : Reply) (c st p c′ st′ p′ : List ℕ) : Type 0 where
+  pub packed :
+      (seats : List Seat)
+      → p ≡ placementsOf seats
+      → PackedTo (packGroups (trialOrder c) (λ k. chamberAt c k .id) r (groupsOf n r) (state (freeOf c st) seats)) c answer c′ st′ p′

@@ -87,7 +87,7 @@ fn serve(
 }
 
 // One group: true where a chamber took it.
-fn pack_group(
+pub fn pack_group(
     chambers: &mut [u32],
     store: &mut [u32],
     order: &[usize],
