@@ -220,9 +220,9 @@ module _ (c st rects p : List ℕ) where
                   let q = s .all-in .inside k i h g in
                   let d = s .shapes-ok .sides k h in
                   record {
-                    x-end = omega (arith, q .alongX .end, d .width-ok .most);
-                    y-end = omega (arith, q .alongY .end, d .height-ok .most);
-                    z-end = omega (arith, q .alongZ .end, d .depth-ok .most);
+                    x-end = omega (arith, q .right, d .width-ok .most);
+                    y-end = omega (arith, q .above, d .height-ok .most);
+                    z-end = omega (arith, q .behind, d .depth-ok .most);
                   };
             };
           };

@@ -18,8 +18,8 @@ use Rattle.bin_section.specs.declared.width_height_depth.WidthHeightDepth.{Widt
 use Rattle.bin_section.specs.Section.{sectionAt, zeroSection}
 use Rattle.bin_section.specs.Sides.{volumeOf, Small}
 use Rattle.bin_section.specs.Replies.{reply}
+use Rattle.bin_section.specs.Inside.{Inside}
 use Rattle.sections.specs.Sections.{sections}
-use Rattle.sections.proofs.Bounding.{Inside}
 use Rattle.try_place.specs.declared.packed_location.PackedLocation.{PackedLocation}
 use Rattle.try_place.specs.declared.Placement.the-variants.{Placed}
 use Rattle.try_place.specs.declared.Tried.{Tried}
@@ -135,17 +135,20 @@ module _ (whd : WidthHeightDepth) where
   pub inside-reachable : Small whd → (s : BinSection) → Inside whd s → Reachable s
   inside-reachable small s p =
       record {
-        x-end = omega (arith, p .alongX .end);
-        y-end = omega (arith, p .alongY .end);
-        z-end = omega (arith, p .alongZ .end);
+        x-end = omega (arith, p .right);
+        y-end = omega (arith, p .above);
+        z-end = omega (arith, p .behind);
       }
 
   pub inside-passes : (s b : BinSection) → Inside whd s → Within s b → Solid b → Inside whd b
   inside-passes s b p w v =
       record {
-        alongX = record { some = solid-width (b .whd .width) (b .whd .height) (b .whd .depth) v; end = omega (arith, p .alongX .end) };
-        alongY = record { some = solid-height (b .whd .width) (b .whd .height) (b .whd .depth) v; end = omega (arith, p .alongY .end) };
-        alongZ = record { some = solid-depth (b .whd .width) (b .whd .height) (b .whd .depth) v; end = omega (arith, p .alongZ .end) };
+        wide = solid-width (b .whd .width) (b .whd .height) (b .whd .depth) v;
+        tall = solid-height (b .whd .width) (b .whd .height) (b .whd .depth) v;
+        deep = solid-depth (b .whd .width) (b .whd .height) (b .whd .depth) v;
+        right = omega (arith, p .right);
+        above = omega (arith, p .above);
+        behind = omega (arith, p .behind);
       }
 
 -- ---- every chamber
