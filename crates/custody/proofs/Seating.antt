@@ -43,7 +43,7 @@ Distinct g = EachTwo (λ i j. i ≡ j → ⊥) g
 abbrev pub Disjoint : List ℕ → List ℕ → Type 0
 Disjoint g h = Each (λ i. Each (λ j. i ≡ j → ⊥) h) g
 
-no-weight : (w : BinSection → ℕ) (at : ℕ) (whd : WidthHeightDepth) → seatWeight w at whd unplaced ≡ 0
+pub no-weight : (w : BinSection → ℕ) (at : ℕ) (whd : WidthHeightDepth) → seatWeight w at whd unplaced ≡ 0
 unfolding seatWeight
 no-weight w at whd = refl
 
