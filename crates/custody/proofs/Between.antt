@@ -12,15 +12,15 @@ use Rattle.target_bin.specs.Chambers.{chamberAt, chamberCount}
 use Rattle.target_bin.specs.Store.{freeAt}
 use Rattle.target_bin.proofs.Passing.{Sound}
 use Rattle.custody.specs.Ledger.{Ledger}
-use Rattle.custody.specs.Run.{Floor, floor, placedAt}
+use Rattle.custody.specs.Run.{Hall, hallOf, placedAt}
 
 -- what holds between two jobs: the tables pass checks 1 to 3, and each chamber is whole
-pub record Good (f : Floor) : Type 0 where
+pub record Good (f : Hall) : Type 0 where
   pub sound-tables : Sound (f .chambers) (f .store)
   pub whole : (k : ℕ) → k < chamberCount (f .chambers) → Whole (chamberAt (f .chambers) k .whd) (placedAt f k ++ freeAt (f .chambers) (f .store) k)
 
 -- another ledger that says the same
-pub good-ledger : (chambers store : List ℕ) (a b : Ledger) → ((id : ℕ) → b id ≡ a id) → Good (floor chambers store a) → Good (floor chambers store b)
+pub good-ledger : (chambers store : List ℕ) (a b : Ledger) → ((id : ℕ) → b id ≡ a id) → Good (hallOf chambers store a) → Good (hallOf chambers store b)
 good-ledger chambers store a b e g = record { sound-tables = g .sound-tables; whole = λ k h. rw (e (chamberAt chambers k .id)) (g .whole k h) }
 
 -- ids rise, so an id names one index

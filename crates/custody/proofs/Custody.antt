@@ -25,7 +25,7 @@ use Rattle.target_bin.proofs.Parts.{length-partAt}
 use Rattle.target_bin.proofs.Passing.{InRange, SidesInRange}
 use Rattle.audit.specs.Audit.{boxesOf, auditBoxes, lengthsOk, auditReply, shownOf, audited, auditOf}
 use Rattle.audit.proofs.Means.{audit-means}
-use Rattle.custody.specs.Run.{Floor, Run, fresh, packs, returns, placedAt, freeCount, auditAt, AuditAccepts}
+use Rattle.custody.specs.Run.{Hall, Run, fresh, packs, returns, placedAt, freeCount, auditAt, AuditAccepts}
 use Rattle.custody.proofs.Between.{Good}
 use Rattle.custody.proofs.FreshStep.{fresh-good}
 use Rattle.custody.proofs.PackStep.{pack-good}
@@ -33,10 +33,10 @@ use Rattle.custody.proofs.ReturnStep.{return-good}
 
 -- ---- every step of a run
 
-pub run-good : {f : Floor} → Run f → Good f
+pub run-good : {hall : Hall} → Run hall → Good hall
 run-good (fresh chambers store done) = fresh-good chambers store done
-run-good (packs {f} before rects placements) = pack-good f (run-good before) rects placements
-run-good (returns {f} before id box there) = return-good f (run-good before) id box there
+run-good (packs {hall} before rects placements) = pack-good hall (run-good before) rects placements
+run-good (returns {hall} before id box there) = return-good hall (run-good before) id box there
 
 -- ---- the audit's words
 
@@ -86,7 +86,7 @@ nothing-shown whd placed free e = ap (λ (a : Reply). audited a (shownOf placed 
 
 -- ---- the theorem
 
-good-accepted : (f : Floor) → Good f → AuditAccepts f
+good-accepted : (f : Hall) → Good f → AuditAccepts f
 unfolding auditAt freeAt auditBoxes
 good-accepted f g =
     record {
@@ -109,5 +109,5 @@ good-accepted f g =
 -- "From fresh chambers, after any packs and returns, refused ones included, with tables untouched in between and each returned box then
 -- placed in that chamber, it accepts each chamber's free sections with every box placed there and not yet taken back, up to 1,024
 -- boxes."
-pub custody : {f : Floor} → Run f → AuditAccepts f
-custody {f} run = good-accepted f (run-good run)
+pub custody : {hall : Hall} → Run hall → AuditAccepts hall
+custody {hall} run = good-accepted hall (run-good run)

@@ -29,7 +29,7 @@ use Rattle.target_bin.proofs.Parts.{getD-freeOf}
 use Rattle.target_bin.proofs.Freshening.{wholeOf}
 use Rattle.target_bin.proofs.FreshModel.{fresh-count, fresh-at, fresh-free, fresh-sound}
 use Rattle.custody.specs.Ledger.{nothing}
-use Rattle.custody.specs.Run.{floor, freshFloor}
+use Rattle.custody.specs.Run.{hallOf, freshHall}
 use Rattle.custody.proofs.Between.{Good}
 
 module _ (whd : WidthHeightDepth) (ok : SidesInRange whd) where
@@ -102,7 +102,7 @@ module _ (chambers store : List ℕ) (done : freshOf chambers store .reply .numb
       let l : k < chamberCount chambers = omega (arith, fresh-count chambers) in
       rw (fresh-at chambers k l, fresh-free-at k l) (one-whole (chamberAt chambers k .whd) (facts .1 .sides k l))
 
-  pub fresh-good : Good (freshFloor chambers store)
+  pub fresh-good : Good (freshHall chambers store)
   fresh-good =
-      subst (λ (o : Outcome). Good (floor (o .chambers) (o .store) nothing)) (sym fresh-out)
+      subst (λ (o : Outcome). Good (hallOf (o .chambers) (o .store) nothing)) (sym fresh-out)
       (record { sound-tables = fresh-sound chambers store (facts .0) (facts .1); whole = fresh-whole })

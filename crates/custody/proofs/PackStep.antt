@@ -44,7 +44,7 @@ use Rattle.rectangle_pack.specs.Seats.{Seat, unplaced, placementsOf}
 use Rattle.rectangle_pack.specs.Packing.{State, state, Ended, packGroups}
 use Rattle.rectangle_pack.specs.Pack.{rectCount, rectLengthsOk, noRoom, packChecks, start, packing, binsWith, PackOutcome, packOutcome, written, packOf}
 use Rattle.custody.specs.Ledger.{Ledger, newBoxes, places, afterPack}
-use Rattle.custody.specs.Run.{Floor, floor, packed, placedAt}
+use Rattle.custody.specs.Run.{Hall, hallOf, packed, placedAt}
 use Rattle.custody.proofs.Between.{Good, good-ledger, one-index}
 use Rattle.custody.proofs.Groups.{groups-disjoint, groups-distinct, groups-below}
 use Rattle.custody.proofs.Ledgers.{new-total}
@@ -101,7 +101,7 @@ order-low chambers = sort-each (tried chambers) (each-tab (chamberCount chambers
 all-waiting : (n : ℕ) {groups : List (List ℕ)} → Each (Each (λ i. i < n)) groups → Each (Each (Waiting n (replicate n unplaced))) groups
 all-waiting n gs = each-map (λ g is. each-map (λ i h. record { below = h; empty = getD-replicate n i unplaced unplaced h }) is) gs
 
-module _ (f : Floor) (good : Good f) (rects placements : List ℕ) where
+module _ (f : Hall) (good : Good f) (rects placements : List ℕ) where
   abbrev c : List ℕ
   c = f .chambers
 
@@ -177,7 +177,7 @@ module _ (f : Floor) (good : Good f) (rects placements : List ℕ) where
       let a : Reply = ordering.answerOf row (reply 0 0) in
       let same : packOf c s rects placements ≡ packOutcome a c s placements =
       row-of ∙ ordering.alone-fires (λ b. packOutcome b c s placements) (written c (packing c s rects)) (reply 0 0) row refl ne in
-      subst (λ (o : PackOutcome). Good (floor (o .chambers) (o .store) (afterPack (o .answer) rects (o .placements) (f .ledger)))) (sym same)
+      subst (λ (o : PackOutcome). Good (hallOf (o .chambers) (o .store) (afterPack (o .answer) rects (o .placements) (f .ledger)))) (sym same)
       (good-ledger c s (f .ledger) (afterPack a rects placements (f .ledger)) (λ id. nothing-placed a id (places-none a ne (low-answer (reply 0 0) low (omega arith)))) good)
 
   -- ---- past the checks
@@ -262,7 +262,7 @@ module _ (f : Floor) (good : Good f) (rects placements : List ℕ) where
     placed-places : places (e .answer) ≡ true
     placed-places = number-places (e .answer) (finished .number)
 
-    written-good : Good (floor (tableOf (binsWith c frees)) (storeOf frees) (afterPack (e .answer) rects (placementsOf seats) (f .ledger)))
+    written-good : Good (hallOf (tableOf (binsWith c frees)) (storeOf frees) (afterPack (e .answer) rects (placementsOf seats) (f .ledger)))
     written-good =
         record {
           sound-tables = written-sound c s frees (good .sound-tables) (k₀ .frees-long) few (k₀ .free-in);
@@ -284,5 +284,5 @@ module _ (f : Floor) (good : Good f) (rects placements : List ℕ) where
       go (yes z) =
           let same : packOf c s rects placements ≡ written c (packing c s rects) =
           row-of ∙ ordering.alone-passes (λ a. packOutcome a c s placements) (written c (packing c s rects)) (reply 0 0) row numbered z in
-          subst (λ (o : PackOutcome). Good (floor (o .chambers) (o .store) (afterPack (o .answer) rects (o .placements) (f .ledger)))) (sym (same ∙ written-is))
+          subst (λ (o : PackOutcome). Good (hallOf (o .chambers) (o .store) (afterPack (o .answer) rects (o .placements) (f .ledger)))) (sym (same ∙ written-is))
           (written-good (ordering.all-pass row (reply 0 0) numbered z))

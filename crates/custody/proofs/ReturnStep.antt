@@ -28,7 +28,7 @@ use Rattle.target_bin.proofs.Tables.{length-chambersOf, getD-chambersOf}
 use Rattle.target_bin.proofs.Parts.{length-freeOf, getD-freeOf}
 use Rattle.target_bin.proofs.ReturnModel.{Accepted, return-done, return-refusal, return-chambers, return-free, return-sound}
 use Rattle.custody.specs.Ledger.{In, first, later, takenOut, afterReturn}
-use Rattle.custody.specs.Run.{Floor, floor, takenBack}
+use Rattle.custody.specs.Run.{Hall, hallOf, takenBack}
 use Rattle.custody.proofs.Placements.{each-inside, inside-each}
 use Rattle.custody.proofs.Totals.{total, held-total, strays, none-strays, all-inside}
 use Rattle.custody.proofs.Ledgers.{taken-total}
@@ -39,7 +39,7 @@ in-list : (whd : WidthHeightDepth) (box : BinSection) {boxes : List BinSection} 
 in-list whd box first (also p ps) = p
 in-list whd box (later q) (also p ps) = in-list whd box q ps
 
-module _ (f : Floor) (good : Good f) (id : ℕ) (box : BinSection) (there : In box (f .ledger id)) where
+module _ (f : Hall) (good : Good f) (id : ℕ) (box : BinSection) (there : returnOf (f .chambers) (f .store) id box .reply .number ≡ 0 → In box (f .ledger id)) where
   abbrev c : List ℕ
   c = f .chambers
 
@@ -130,7 +130,7 @@ module _ (f : Floor) (good : Good f) (id : ℕ) (box : BinSection) (there : In b
     whole-at : (j : ℕ) → j < chamberCount c → Dec (j ≡ at) → Whole (chamberAt c j .whd) (afterReturn (o .reply) id box (f .ledger) (chamberAt c j .id) ++ freeAt (o .chambers) (o .store) j)
     whole-at j h (yes e) =
         rw (e, a .named, ledger-here id refl, free-here)
-        (moved-whole (chamberAt c at .whd) (f .ledger id) (freeAt c s at) there
+        (moved-whole (chamberAt c at .whd) (f .ledger id) (freeAt c s at) (there zero-reply)
         (subst (λ (m : ℕ). Whole (chamberAt c at .whd) (f .ledger m ++ freeAt c s at)) (a .named) (good .whole at (a .known))))
     whole-at j h (no ne) =
         rw (free-there j h ne, ledger-there (chamberAt c j .id) (λ e. ne (one-index c s (good .sound-tables) j at h (a .known) (e ∙ sym (a .named)))))
@@ -156,9 +156,9 @@ module _ (f : Floor) (good : Good f) (id : ℕ) (box : BinSection) (there : In b
   refused-good : (o .reply .number ≡ 0 → ⊥) → Good (takenBack f id box)
   refused-good ne =
       let same : o ≡ outcome (o .reply) c s = return-refusal c s id box ne in
-      let g : Good (floor c s (afterReturn (o .reply) id box (f .ledger))) =
+      let g : Good (hallOf c s (afterReturn (o .reply) id box (f .ledger))) =
       good-ledger c s (f .ledger) (afterReturn (o .reply) id box (f .ledger)) (refused-ledger ne) good in
-      subst (λ (p : Outcome). Good (floor (p .chambers) (p .store) (afterReturn (o .reply) id box (f .ledger)))) (sym same) g
+      subst (λ (p : Outcome). Good (hallOf (p .chambers) (p .store) (afterReturn (o .reply) id box (f .ledger)))) (sym same) g
 
   pub return-good : Good (takenBack f id box)
   return-good = go (ℕ-discrete (o .reply .number) 0)

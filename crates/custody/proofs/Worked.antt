@@ -1,8 +1,9 @@
--- A run worked through: a pack that answers 7 and keeps an earlier group, a pack refused by a check, a return, and a second pack.
+-- A run worked through: a pack that answers 7 and keeps an earlier group, a pack and a return refused by checks, a return, and a second pack.
 use Prim.Native.Nat.{ℕ}
 use mathlib.Core.Path.{_≡_, refl, sym, ap, _∙_, subst}
 use mathlib.Core.List.{List, [], _∷_, _++_}
-use lib.ListN.{length, replicate, take}
+use native.Mathlib.Omega.{arith}
+use lib.ListN.{replicate}
 use Rattle.lists.specs.Lowest.{lowest, anyBelow}
 use Rattle.lists.specs.Pick.{picked}
 use Rattle.lists.specs.Sort.{insertBy, insertAll}
@@ -37,7 +38,7 @@ use Rattle.rectangle_pack.specs.Packing.{rectsAt, trialIn, firstWhole, changed,
 use Rattle.rectangle_pack.specs.Pack.{rectLengthsOk, noRoom, packChecks, start, packing, binsWith, PackOutcome, packOutcome, written, packOf}
 use Rattle.audit.specs.Audit as audit
 use Rattle.custody.specs.Ledger.{placedIn, boxOf, newBoxes, places, Ledger, nothing, afterPack, In, first, sameBox, takenOut, afterReturn}
-use Rattle.custody.specs.Run.{Floor, floor, freshFloor, packed, takenBack, Run, fresh, packs, returns, auditAt, AuditAccepts}
+use Rattle.custody.specs.Run.{Hall, hallOf, freshHall, packed, takenBack, Run, fresh, packs, returns, auditAt, AuditAccepts}
 use Rattle.custody.proofs.Custody.{custody}
 
 abbrev box : ℕ → ℕ → ℕ → ℕ → ℕ → ℕ → BinSection
@@ -80,17 +81,17 @@ free₀ = box 0 0 0 10 10 1 ∷ []
 unfoldable free₁ : List BinSection
 free₁ = box 6 0 0 4 10 1 ∷ []
 
-unfoldable free₃ : List BinSection
-free₃ = box 6 0 0 4 10 1 ∷ box 0 0 0 6 10 1 ∷ []
-
 unfoldable free₄ : List BinSection
-free₄ = box 0 6 0 6 4 1 ∷ box 4 0 0 2 6 1 ∷ box 6 6 0 4 4 1 ∷ []
+free₄ = box 6 0 0 4 10 1 ∷ box 0 0 0 6 10 1 ∷ []
+
+unfoldable free₅ : List BinSection
+free₅ = box 0 6 0 6 4 1 ∷ box 4 0 0 2 6 1 ∷ box 6 6 0 4 4 1 ∷ []
 
 unfoldable records₁ : List ℕ
 records₁ = (1 ∷ 1 ∷ 0 ∷ 0 ∷ 0 ∷ []) ++ replicate 10 0
 
-unfoldable records₄ : List ℕ
-records₄ = (1 ∷ 1 ∷ 0 ∷ 0 ∷ 0 ∷ []) ++ (1 ∷ 1 ∷ 6 ∷ 0 ∷ 0 ∷ [])
+unfoldable records₅ : List ℕ
+records₅ = (1 ∷ 1 ∷ 0 ∷ 0 ∷ 0 ∷ []) ++ (1 ∷ 1 ∷ 6 ∷ 0 ∷ 0 ∷ [])
 
 -- what an onlooker writes down, job by job
 
@@ -101,10 +102,13 @@ unfoldable ledger₂ : Ledger
 ledger₂ = afterPack (reply 4 0) faulty (replicate 5 9) ledger₁
 
 unfoldable ledger₃ : Ledger
-ledger₃ = afterReturn (reply 0 1) 1 returnedBox ledger₂
+ledger₃ = afterReturn (reply 10 0) 1 (box 5 0 0 2 2 1) ledger₂
 
 unfoldable ledger₄ : Ledger
-ledger₄ = afterPack (reply 0 0) two records₄ ledger₃
+ledger₄ = afterReturn (reply 0 1) 1 returnedBox ledger₃
+
+unfoldable ledger₅ : Ledger
+ledger₅ = afterPack (reply 0 0) two records₅ ledger₄
 
 -- ---- each job, worked through
 
@@ -115,20 +119,22 @@ record Jobs : Type 0 where
   kept-first : packOf (chamberWith 1) (partOf free₀) three (replicate 15 9) ≡ packOutcome (reply 7 1) (chamberWith 1) (partOf free₁) records₁
   -- a pack refused by check 4 changes nothing
   refused : packOf (chamberWith 1) (partOf free₁) faulty (replicate 5 9) ≡ packOutcome (reply 4 0) (chamberWith 1) (partOf free₁) (replicate 5 9)
+  -- a return refused by check 10, since a free section shares a cell with the box, changes nothing
+  shared : returnOf (chamberWith 1) (partOf free₁) 1 (box 5 0 0 2 2 1) ≡ outcome (reply 10 0) (chamberWith 1) (partOf free₁)
   -- the return answers 0
-  back : returnOf (chamberWith 1) (partOf free₁) 1 returnedBox ≡ outcome (reply 0 1) (chamberWith 2) (partOf free₃)
+  back : returnOf (chamberWith 1) (partOf free₁) 1 returnedBox ≡ outcome (reply 0 1) (chamberWith 2) (partOf free₄)
   -- now the group fits: the second pack answers 0
-  again : packOf (chamberWith 2) (partOf free₃) two (replicate 10 9) ≡ packOutcome (reply 0 0) (chamberWith 3) (partOf free₄) records₄
+  again : packOf (chamberWith 2) (partOf free₄) two (replicate 10 9) ≡ packOutcome (reply 0 0) (chamberWith 3) (partOf free₅) records₅
   -- the boxes placed in chamber 1 after each job
   ledgers :
-      ledger₁ 1 ∷ ledger₂ 1 ∷ ledger₃ 1 ∷ ledger₄ 1 ∷ []
-      ≡ (returnedBox ∷ []) ∷ (returnedBox ∷ []) ∷ [] ∷ (box 0 0 0 4 6 1 ∷ box 6 0 0 4 6 1 ∷ []) ∷ []
-  still-placed : In returnedBox (ledger₂ 1)
+      ledger₁ 1 ∷ ledger₂ 1 ∷ ledger₃ 1 ∷ ledger₄ 1 ∷ ledger₅ 1 ∷ []
+      ≡ (returnedBox ∷ []) ∷ (returnedBox ∷ []) ∷ (returnedBox ∷ []) ∷ [] ∷ (box 0 0 0 4 6 1 ∷ box 6 0 0 4 6 1 ∷ []) ∷ []
+  still-placed : In returnedBox (ledger₃ 1)
   -- the audit accepts the chamber at the end
-  accepted : auditAt (floor (chamberWith 3) (partOf free₄) ledger₄) 0 ≡ audit.audited (reply 0 0) []
+  accepted : auditAt (hallOf (chamberWith 3) (partOf free₅) ledger₅) 0 ≡ audit.audited (reply 0 0) []
   -- with a box left out of the ledger it would find a gap, and with the returned box still in it a shared cell
-  left-out : audit.auditOf (sides 10 10 1) (allWords (box 0 0 0 4 6 1 ∷ [])) (allWords free₄) .answer ≡ reply 18 0
-  still-in : audit.auditOf (sides 10 10 1) (allWords (returnedBox ∷ ledger₄ 1)) (allWords free₄) .answer ≡ reply 17 1
+  left-out : audit.auditOf (sides 10 10 1) (allWords (box 0 0 0 4 6 1 ∷ [])) (allWords free₅) .answer ≡ reply 18 0
+  still-in : audit.auditOf (sides 10 10 1) (allWords (returnedBox ∷ ledger₅ 1)) (allWords free₅) .answer ≡ reply 17 1
 
 jobs : Jobs
 unfolding lowest anyBelow picked sumTo tab removeAt put sectionAt spansMeet overlapsOf inOrder sections joined spanInside insideOf
@@ -139,14 +145,15 @@ unfolding lowest anyBelow picked sumTo tab removeAt put sectionAt spansMeet over
     placeFrom placeOne placeAll placeGroup order.goesBefore order.tried order.trialOrder seated
     rectsAt trialIn firstWhole changed packGroups rectLengthsOk noRoom packChecks start packing binsWith written packOf
     placedIn boxOf newBoxes places afterPack sameBox takenOut afterReturn
-    lentChambers lentStore three faulty two returnedBox chamberWith free₀ free₁ free₃ free₄ records₁ records₄
+    lentChambers lentStore three faulty two returnedBox chamberWith free₀ free₁ free₄ free₅ records₁ records₅
     auditAt audit.boxesOf audit.auditBoxes audit.lengthsOk audit.spanOutside audit.outside audit.sharesEarlier audit.auditReply audit.shownOf
-    audit.auditOf ledger₁ ledger₂ ledger₃ ledger₄
+    audit.auditOf ledger₁ ledger₂ ledger₃ ledger₄ ledger₅
 jobs =
     record {
       freshly = refl;
       kept-first = refl;
       refused = refl;
+      shared = refl;
       back = refl;
       again = refl;
       ledgers = refl;
@@ -158,26 +165,29 @@ jobs =
 
 -- ---- they are a run, so the theorem speaks of it
 
-abbrev end : Floor
-end = floor (chamberWith 3) (partOf free₄) ledger₄
+abbrev end : Hall
+end = hallOf (chamberWith 3) (partOf free₅) ledger₅
 
 run : Run end
-unfolding ledger₁ ledger₂ ledger₃ ledger₄
+unfolding ledger₁ ledger₂ ledger₃ ledger₄ ledger₅
 run =
-    let r₀ : Run (floor (chamberWith 1) (partOf free₀) nothing) =
-    subst (λ (o : Outcome). Run (floor (o .chambers) (o .store) nothing)) (jobs .freshly)
+    let r₀ : Run (hallOf (chamberWith 1) (partOf free₀) nothing) =
+    subst (λ (o : Outcome). Run (hallOf (o .chambers) (o .store) nothing)) (jobs .freshly)
     (fresh lentChambers lentStore (ap (λ (o : Outcome). o .reply .number) (jobs .freshly))) in
-    let r₁ : Run (floor (chamberWith 1) (partOf free₁) ledger₁) =
-    subst (λ (o : PackOutcome). Run (floor (o .chambers) (o .store) (afterPack (o .answer) three (o .placements) nothing))) (jobs .kept-first)
+    let r₁ : Run (hallOf (chamberWith 1) (partOf free₁) ledger₁) =
+    subst (λ (o : PackOutcome). Run (hallOf (o .chambers) (o .store) (afterPack (o .answer) three (o .placements) nothing))) (jobs .kept-first)
     (packs r₀ three (replicate 15 9)) in
-    let r₂ : Run (floor (chamberWith 1) (partOf free₁) ledger₂) =
-    subst (λ (o : PackOutcome). Run (floor (o .chambers) (o .store) (afterPack (o .answer) faulty (o .placements) ledger₁))) (jobs .refused)
+    let r₂ : Run (hallOf (chamberWith 1) (partOf free₁) ledger₂) =
+    subst (λ (o : PackOutcome). Run (hallOf (o .chambers) (o .store) (afterPack (o .answer) faulty (o .placements) ledger₁))) (jobs .refused)
     (packs r₁ faulty (replicate 5 9)) in
-    let r₃ : Run (floor (chamberWith 2) (partOf free₃) ledger₃) =
-    subst (λ (o : Outcome). Run (floor (o .chambers) (o .store) (afterReturn (o .reply) 1 returnedBox ledger₂))) (jobs .back)
-    (returns r₂ 1 returnedBox (jobs .still-placed)) in
-    subst (λ (o : PackOutcome). Run (floor (o .chambers) (o .store) (afterPack (o .answer) two (o .placements) ledger₃))) (jobs .again)
-    (packs r₃ two (replicate 10 9))
+    let r₃ : Run (hallOf (chamberWith 1) (partOf free₁) ledger₃) =
+    subst (λ (o : Outcome). Run (hallOf (o .chambers) (o .store) (afterReturn (o .reply) 1 (box 5 0 0 2 2 1) ledger₂))) (jobs .shared)
+    (returns r₂ 1 (box 5 0 0 2 2 1) (λ z. absurd (omega (arith, z, ap (λ (o : Outcome). o .reply .number) (jobs .shared))))) in
+    let r₄ : Run (hallOf (chamberWith 2) (partOf free₄) ledger₄) =
+    subst (λ (o : Outcome). Run (hallOf (o .chambers) (o .store) (afterReturn (o .reply) 1 returnedBox ledger₃))) (jobs .back)
+    (returns r₃ 1 returnedBox (λ z. jobs .still-placed)) in
+    subst (λ (o : PackOutcome). Run (hallOf (o .chambers) (o .store) (afterPack (o .answer) two (o .placements) ledger₄))) (jobs .again)
+    (packs r₄ two (replicate 10 9))
 
 accepts : AuditAccepts end
 accepts = custody run
