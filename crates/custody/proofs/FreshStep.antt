@@ -1,0 +1,108 @@
+-- Fresh leaves every chamber whole: its one free section is the chamber itself.
+use Prim.Native.Nat.{ℕ, _<_}
+use mathlib.Core.Path.{_≡_, refl, sym, ap, _∙_, subst}
+use mathlib.Core.List.{List, [], _∷_}
+use native.Mathlib.Omega.{arith}
+use borrow.Author.Tests.{not-false}
+use lib.ListN.{getD, List·getD-map}
+use Rattle.lists.specs.Sort.{none}
+use Rattle.bin_section.specs.declared.reply.Reply.{Reply}
+use Rattle.bin_section.specs.declared.section.BinSection.{BinSection}
+use Rattle.bin_section.specs.declared.width_height_depth.WidthHeightDepth.{WidthHeightDepth}
+use Rattle.bin_section.specs.Sides.{sides}
+use Rattle.bin_section.specs.Section.{wholeSection}
+use Rattle.bin_section.specs.Replies.{Check, reply, once, inOrder}
+use Rattle.cells.specs.Whole.{Inside, Whole}
+use Rattle.cells.proofs.Grid.{has-le, has-in}
+use Rattle.cells.proofs.Held.{held, whole-held}
+use Rattle.cells.proofs.Insides.{inside-more, inside-none}
+use Rattle.target_bin.specs.declared.chamber.TargetBin.{TargetBin}
+use Rattle.target_bin.specs.Chambers.{bin, chamberAt, chamberCount, chambersOf}
+use Rattle.target_bin.specs.Store.{freeAt}
+use Rattle.target_bin.specs.Checks.{badShape, check1, check2Fresh}
+use Rattle.target_bin.specs.Outcome.{Outcome, outcome, refused}
+use Rattle.target_bin.specs.Fresh.{freshTable, freshStore, freshOf}
+use Rattle.target_bin.proofs.Ordering as ordering
+use Rattle.target_bin.proofs.Passing.{Lengths, lengths, SidesInRange, ShapesSound, shapes-sound, no-fault}
+use Rattle.target_bin.proofs.Tables.{getD-chambersOf}
+use Rattle.target_bin.proofs.Parts.{getD-freeOf}
+use Rattle.target_bin.proofs.Freshening.{wholeOf}
+use Rattle.target_bin.proofs.FreshModel.{fresh-count, fresh-at, fresh-free, fresh-sound}
+use Rattle.custody.specs.Ledger.{nothing}
+use Rattle.custody.specs.Run.{hallOf, freshHall}
+use Rattle.custody.proofs.Between.{Good}
+
+module _ (whd : WidthHeightDepth) (ok : SidesInRange whd) where
+  whole-inside : Inside whd (wholeSection whd)
+  whole-inside =
+      record {
+        wide = ok .width-ok .some;
+        tall = ok .height-ok .some;
+        deep = ok .depth-ok .some;
+        right = omega arith;
+        above = omega arith;
+        behind = omega arith;
+      }
+
+  -- one section that is the whole chamber
+  pub one-whole : Whole whd (wholeSection whd ∷ [])
+  unfolding held
+  one-whole =
+      whole-held whd (wholeSection whd ∷ []) .1
+      (record {
+        inside = inside-more whd (wholeSection whd) [] whole-inside (inside-none whd);
+        once = λ cx cy cz c.
+            omega (
+              arith,
+              has-le (wholeSection whd) cx cy cz,
+              has-in (wholeSection whd) cx cy cz
+                  (record { alongX = (omega arith, omega (arith, c .inX)); alongY = (omega arith, omega (arith, c .inY)); alongZ = (omega arith, omega (arith, c .inZ)) }),
+            );
+      })
+
+module _ (chambers store : List ℕ) (done : freshOf chambers store .reply .number ≡ 0) where
+  abbrev row : List Check
+  row = check1 chambers store ∷ check2Fresh chambers ∷ []
+
+  abbrev out : Outcome
+  out = outcome (reply 0 0) (freshTable chambers) (freshStore chambers)
+
+  row-of : freshOf chambers store ≡ inOrder row (refused chambers store) out
+  unfolding freshOf
+  row-of = refl
+
+  numbered : ordering.Numbered row
+  numbered = ordering.more (λ (e : _≡_ {A = ℕ} 1 0). omega arith) (ordering.more (λ (e : _≡_ {A = ℕ} 2 0). omega arith) ordering.none)
+
+  answers : ordering.answerOf row (reply 0 0) .number ≡ 0
+  answers =
+      sym (ap (λ (o : Outcome). o .reply .number) row-of ∙ ap (λ (r : Reply). r .number) (ordering.in-map (λ o. o .reply) (refused chambers store) out row))
+      ∙ done
+
+  fresh-out : freshOf chambers store ≡ out
+  fresh-out = row-of ∙ ordering.alone-passes (refused chambers store) out (reply 0 0) row numbered answers
+
+  facts : Lengths chambers store × ShapesSound chambers
+  facts = go (ordering.all-pass row (reply 0 0) numbered answers)
+    where
+      go : ordering.AllPass row → Lengths chambers store × ShapesSound chambers
+      go (ordering.and p (ordering.and q ordering.no-more)) =
+          (lengths chambers store (not-false _ p), shapes-sound chambers (no-fault (chamberCount chambers) (badShape chambers) q))
+
+  fresh-free-at : (k : ℕ) → k < chamberCount chambers → freeAt (freshTable chambers) (freshStore chambers) k ≡ wholeOf (chamberAt chambers k)
+  fresh-free-at k h =
+      let d : TargetBin = bin 0 (sides 0 0 0) 0 in
+      sym (getD-freeOf (freshTable chambers) (freshStore chambers) k (wholeOf d) (omega (arith, fresh-count chambers)))
+      ∙ ap (λ (l : List (List BinSection)). getD l k (wholeOf d)) (fresh-free chambers)
+      ∙ List·getD-map (λ b. wholeOf b) (chambersOf chambers) k d
+      ∙ ap (λ (b : TargetBin). wholeOf b) (getD-chambersOf chambers k d h)
+
+  fresh-whole : (k : ℕ) → k < chamberCount (freshTable chambers) → Whole (chamberAt (freshTable chambers) k .whd) (freeAt (freshTable chambers) (freshStore chambers) k)
+  fresh-whole k h =
+      let l : k < chamberCount chambers = omega (arith, fresh-count chambers) in
+      rw (fresh-at chambers k l, fresh-free-at k l) (one-whole (chamberAt chambers k .whd) (facts .1 .sides k l))
+
+  pub fresh-good : Good (freshHall chambers store)
+  fresh-good =
+      subst (λ (o : Outcome). Good (hallOf (o .chambers) (o .store) nothing)) (sym fresh-out)
+      (record { sound-tables = fresh-sound chambers store (facts .0) (facts .1); whole = fresh-whole })

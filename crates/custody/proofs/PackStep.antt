@@ -1,0 +1,288 @@
+-- A pack leaves every chamber whole: what was free is free still or lies in a box that its records place there; a pack refused by a
+-- check changes nothing.
+use Prim.Native.Nat.{ℕ, zero, suc, _+_, _*_, _≤_, _<_}
+use mathlib.Core.Path.{_≡_, refl, sym, ap, _∙_, subst}
+use mathlib.Core.Logic.{_⊎_, inl, inr}
+use mathlib.Core.List.{List, [], _∷_, _++_}
+use mathlib.Core.Bool.{Bool, true, false, _&&_, _||_, not, cond}
+use native.Mathlib.Decide.{ℕ-discrete}
+use native.Mathlib.Omega.{arith}
+use borrow.Author.Tests.{ltb-true, ltb-false, eq-eqb, ne-eqb, not-false}
+use lib.Dec.{ltb, leb, eqb}
+use lib.ListN.{length, getD, replicate, getD-replicate}
+use Rattle.lists.specs.Lowest.{lowest}
+use Rattle.lists.specs.Tab.{tab}
+use Rattle.lists.specs.Sort.{Each, none, also}
+use Rattle.lists.proofs.Flags.{cond-yes, cond-no, and-first, and-second, or-none}
+use Rattle.lists.proofs.Lowests.{None}
+use Rattle.lists.proofs.Sorts.{each-append, each-map, sort-each}
+use Rattle.bin_section.specs.declared.reply.Reply.{Reply}
+use Rattle.bin_section.specs.declared.section.BinSection.{BinSection}
+use Rattle.bin_section.specs.declared.width_height_depth.WidthHeightDepth.{WidthHeightDepth}
+use Rattle.bin_section.specs.Sides.{sideOk, sidesOk, Small}
+use Rattle.bin_section.specs.Section.{zeroSection, sectionAt}
+use Rattle.bin_section.specs.Replies.{Check, reply, once, each, inOrder}
+use Rattle.cells.specs.Whole.{Inside, AllInside, Whole}
+use Rattle.cells.proofs.Grid.{has}
+use Rattle.cells.proofs.Held.{held, held-append, whole-same}
+use Rattle.cells.proofs.Insides.{inside-first, inside-second, inside-both}
+use Rattle.placing.proofs.Reaches.{each-tab}
+use Rattle.target_bin.specs.declared.chamber.TargetBin.{TargetBin}
+use Rattle.target_bin.specs.Chambers.{chamberAt, chamberCount, tableOf}
+use Rattle.sections.proofs.Reading.{length-sections}
+use Rattle.target_bin.specs.Store.{partAt, freeAt, freeOf, storeOf}
+use Rattle.target_bin.specs.Checks.{lengthsOk, badChamber, badSections, check2, check3}
+use Rattle.target_bin.proofs.Ordering as ordering
+use Rattle.target_bin.proofs.Passing.{SidesInRange, Sound, sound, no-fault}
+use Rattle.target_bin.proofs.Parts.{length-freeOf, getD-freeOf}
+use Rattle.grouped_rects_to_place.specs.declared.rect_to_place.RectToPlace.{RectToPlace}
+use Rattle.grouped_rects_to_place.specs.Rect.{rectAt}
+use Rattle.grouped_rects_to_place.specs.Checks.{badRect, repeatedId}
+use Rattle.grouped_rects_to_place.specs.Groups.{groupsOf}
+use Rattle.rectangle_pack.specs.Order.{tried, trialOrder}
+use Rattle.rectangle_pack.specs.Seats.{Seat, unplaced, placementsOf}
+use Rattle.rectangle_pack.specs.Packing.{State, state, Ended, packGroups}
+use Rattle.rectangle_pack.specs.Pack.{rectCount, rectLengthsOk, noRoom, packChecks, start, packing, binsWith, PackOutcome, packOutcome, written, packOf}
+use Rattle.custody.specs.Ledger.{Ledger, newBoxes, places, afterPack}
+use Rattle.custody.specs.Run.{Hall, hallOf, packed, placedAt}
+use Rattle.custody.proofs.Between.{Good, good-ledger, one-index}
+use Rattle.custody.proofs.Groups.{groups-disjoint, groups-distinct, groups-below}
+use Rattle.custody.proofs.Ledgers.{new-total}
+use Rattle.custody.proofs.Packs.{Ready, Conserved, Finished, start-conserved, groups-conserved}
+use Rattle.custody.proofs.Placements.{Sided, each-inside, inside-each}
+use Rattle.custody.proofs.Seating.{seatTotal, Waiting, seats-few}
+use Rattle.custody.proofs.Totals.{total, held-total, strays, all-inside}
+use Rattle.custody.proofs.Written.{written-count, written-at, written-free, written-sound}
+
+-- ---- a row of checks whose numbers are below 7
+
+low-answer : {cs : List Check} (r : Reply) → Each (λ c. c .answer .number < 7) cs → r .number < 7 → ordering.answerOf cs r .number < 7
+unfolding inOrder
+low-answer r none h = h
+low-answer r (also {x = c} {xs = cs} p ps) h = go (c .fires) (low-answer r ps h)
+  where
+    go : (t : Bool) → ordering.answerOf cs r .number < 7 → cond t (c .answer) (ordering.answerOf cs r) .number < 7
+    go true l = p
+    go false l = l
+
+-- ---- what the checks leave
+
+side-some : (side : ℕ) → sideOk side ≡ true → 0 < side
+unfolding sideOk
+side-some side t = ltb-true 0 side (and-first (ltb 0 side) (leb side 65535) t)
+
+sides-some : (whd : WidthHeightDepth) → sidesOk whd ≡ true → Sided (record { whd = whd })
+sides-some whd t =
+    let a = sideOk (whd .width) in
+    let b = sideOk (whd .height) in
+    let d = sideOk (whd .depth) in
+    let rest : (b && d) ≡ true = and-second a (b && d) t in
+    record { wide = side-some _ (and-first a (b && d) t); tall = side-some _ (and-first b d rest); deep = side-some _ (and-second b d rest) }
+
+rect-sided : (r : ℕ → RectToPlace) (n : ℕ) → None n (badRect r) → (i : ℕ) → i < n → Sided (record { whd = r i .whd })
+unfolding badRect
+rect-sided r n p i h = sides-some (r i .whd) (not-false (sidesOk (r i .whd)) (p .at i h))
+
+room-left : (chambers : List ℕ) (n m : ℕ) → None m (noRoom chambers n) → (k : ℕ) → k < m → chamberAt chambers k .count + 2 * n ≤ 128
+unfolding noRoom
+room-left chambers n m p k h = ltb-false 128 (chamberAt chambers k .count + 2 * n) (p .at k h)
+
+chamber-small : (whd : WidthHeightDepth) → SidesInRange whd → Small whd
+chamber-small whd p = record { width-small = p .width-ok .most; height-small = p .height-ok .most; depth-small = p .depth-ok .most }
+
+length-freeAt : (chambers store : List ℕ) (k : ℕ) → length (freeAt chambers store k) ≡ chamberAt chambers k .count
+unfolding freeAt
+length-freeAt chambers store k = length-sections (partAt store k) (chamberAt chambers k .count)
+
+order-low : (chambers : List ℕ) → Each (λ k. k < chamberCount chambers) (trialOrder chambers)
+unfolding trialOrder
+order-low chambers = sort-each (tried chambers) (each-tab (chamberCount chambers) (λ i. i) (λ i h. h))
+
+all-waiting : (n : ℕ) {groups : List (List ℕ)} → Each (Each (λ i. i < n)) groups → Each (Each (Waiting n (replicate n unplaced))) groups
+all-waiting n gs = each-map (λ g is. each-map (λ i h. record { below = h; empty = getD-replicate n i unplaced unplaced h }) is) gs
+
+module _ (f : Hall) (good : Good f) (rects placements : List ℕ) where
+  abbrev c : List ℕ
+  c = f .chambers
+
+  abbrev s : List ℕ
+  s = f .store
+
+  abbrev m : ℕ
+  m = chamberCount c
+
+  abbrev n : ℕ
+  n = rectCount rects
+
+  abbrev r : ℕ → RectToPlace
+  r = rectAt rects
+
+  abbrev ids : ℕ → ℕ
+  ids = λ k. chamberAt c k .id
+
+  abbrev whds : ℕ → WidthHeightDepth
+  whds = λ k. chamberAt c k .whd
+
+  abbrev row : List Check
+  row =
+      once 1 (not (lengthsOk c s && rectLengthsOk rects placements))
+      ∷ check2 c
+      ∷ check3 c s
+      ∷ each 4 n (badRect r)
+      ∷ each 5 n (repeatedId r)
+      ∷ each 6 m (noRoom c n)
+      ∷ []
+
+  numbered : ordering.Numbered row
+  numbered =
+      ordering.more (λ (e : _≡_ {A = ℕ} 1 0). omega arith) (ordering.more (λ (e : _≡_ {A = ℕ} 2 0). omega arith)
+      (ordering.more (λ (e : _≡_ {A = ℕ} 3 0). omega arith) (ordering.more (λ (e : _≡_ {A = ℕ} 4 0). omega arith)
+      (ordering.more (λ (e : _≡_ {A = ℕ} 5 0). omega arith) (ordering.more (λ (e : _≡_ {A = ℕ} 6 0). omega arith) ordering.none)))))
+
+  low : Each (λ x. x .answer .number < 7) row
+  low =
+      also {x = once 1 (not (lengthsOk c s && rectLengthsOk rects placements))} (omega arith) (also {x = check2 c} (omega arith)
+      (also {x = check3 c s} (omega arith) (also {x = each 4 n (badRect r)} (omega arith)
+      (also {x = each 5 n (repeatedId r)} (omega arith) (also {x = each 6 m (noRoom c n)} (omega arith) none)))))
+
+  row-of : packOf c s rects placements ≡ inOrder row (λ a. packOutcome a c s placements) (written c (packing c s rects))
+  unfolding packOf packChecks
+  row-of = refl
+
+  -- ---- refused by a check
+
+  nothing-placed : (a : Reply) (id : ℕ) → places a ≡ false → afterPack a rects placements (f .ledger) id ≡ f .ledger id
+  unfolding afterPack
+  nothing-placed a id e = cond-no (f .ledger id ++ newBoxes rects placements id) (f .ledger id) (places a) e
+
+  places-none : (a : Reply) → (a .number ≡ 0 → ⊥) → a .number < 7 → places a ≡ false
+  unfolding places
+  places-none a ne h = or-none (eqb (a .number) 0) (eqb (a .number) 7) (ne-eqb (a .number) 0 ne) (ne-eqb (a .number) 7 (λ e. omega arith))
+
+  all-placed : (a : Reply) (id : ℕ) (records : List ℕ) → places a ≡ true → afterPack a rects records (f .ledger) id ≡ f .ledger id ++ newBoxes rects records id
+  unfolding afterPack
+  all-placed a id records e = cond-yes (f .ledger id ++ newBoxes rects records id) (f .ledger id) (places a) e
+
+  number-places : (a : Reply) → (a .number ≡ 0) ⊎ (a .number ≡ 7) → places a ≡ true
+  unfolding places
+  number-places a (inl e) = rw e refl
+  number-places a (inr e) = rw e refl
+
+  written-is : written c (packing c s rects) ≡ packOutcome (packing c s rects .answer) (tableOf (binsWith c (packing c s rects .after .frees))) (storeOf (packing c s rects .after .frees)) (placementsOf (packing c s rects .after .seats))
+  unfolding written
+  written-is = refl
+
+  refused-good : (ordering.answerOf row (reply 0 0) .number ≡ 0 → ⊥) → Good (packed f rects placements)
+  refused-good ne =
+      let a : Reply = ordering.answerOf row (reply 0 0) in
+      let same : packOf c s rects placements ≡ packOutcome a c s placements =
+      row-of ∙ ordering.alone-fires (λ b. packOutcome b c s placements) (written c (packing c s rects)) (reply 0 0) row refl ne in
+      subst (λ (o : PackOutcome). Good (hallOf (o .chambers) (o .store) (afterPack (o .answer) rects (o .placements) (f .ledger)))) (sym same)
+      (good-ledger c s (f .ledger) (afterPack a rects placements (f .ledger)) (λ id. nothing-placed a id (places-none a ne (low-answer (reply 0 0) low (omega arith)))) good)
+
+  -- ---- past the checks
+
+  module _ (pass : ordering.AllPass row) where
+    none4 : None n (badRect r)
+    none4 = go pass
+      where
+        go : ordering.AllPass row → None n (badRect r)
+        go (ordering.and p1 (ordering.and p2 (ordering.and p3 (ordering.and p4 rest)))) = no-fault n (badRect r) p4
+
+    none6 : None m (noRoom c n)
+    none6 = go pass
+      where
+        go : ordering.AllPass row → None m (noRoom c n)
+        go (ordering.and p1 (ordering.and p2 (ordering.and p3 (ordering.and p4 (ordering.and p5 (ordering.and p6 rest)))))) = no-fault m (noRoom c n) p6
+
+    started : Conserved m n ids whds r (freeOf c s) (state (freeOf c s) (replicate n unplaced))
+    started =
+        start-conserved m n ids whds r (freeOf c s) index small sided (length-freeOf c s)
+        (λ k h. rw (getD-freeOf c s k [] h) (inside-each (whds k) (freeAt c s k) (inside-second (whds k) (placedAt f k) (freeAt c s k) (good .whole k h .inside))))
+      where
+        index : (j k : ℕ) → j < m → k < m → ids j ≡ ids k → j ≡ k
+        index = one-index c s (good .sound-tables)
+
+        small : (k : ℕ) → k < m → Small (whds k)
+        small k h = chamber-small (whds k) (good .sound-tables .shapes-ok .sides k h)
+
+        sided : (i : ℕ) → i < n → Sided (record { whd = r i .whd })
+        sided = rect-sided r n none4
+
+    finished : Finished m n ids whds r (freeOf c s) (one-index c s (good .sound-tables)) (λ k h. chamber-small (whds k) (good .sound-tables .shapes-ok .sides k h)) (rect-sided r n none4) (packing c s rects)
+    unfolding packing start
+    finished =
+        groups-conserved m n ids whds r (freeOf c s) (one-index c s (good .sound-tables)) (λ k h. chamber-small (whds k) (good .sound-tables .shapes-ok .sides k h)) (rect-sided r n none4)
+        (trialOrder c) (groupsOf n r) (state (freeOf c s) (replicate n unplaced)) (order-low c) started
+        (record { waiting = all-waiting n (groups-below r n); distinct = groups-distinct r n; apart = groups-disjoint r n })
+
+    abbrev e : Ended
+    e = packing c s rects
+
+    abbrev frees : List (List BinSection)
+    frees = e .after .frees
+
+    abbrev seats : List Seat
+    seats = e .after .seats
+
+    k₀ : Conserved m n ids whds r (freeOf c s) (e .after)
+    k₀ = finished .conserved
+
+    few : (k : ℕ) → k < m → length (getD frees k []) ≤ 128
+    few k h = omega (arith, k₀ .room k h, seats-few r n (ids k) seats, room-left c n m none6 k h, free-long k h)
+      where
+        free-long : (k : ℕ) → k < m → length (getD (freeOf c s) k []) ≡ chamberAt c k .count
+        free-long k h = ap length (getD-freeOf c s k [] h) ∙ length-freeAt c s k
+
+    new-weight : (w : BinSection → ℕ) (k : ℕ) → total w (newBoxes rects (placementsOf seats) (ids k)) ≡ seatTotal w r n (ids k) seats
+    new-weight w k = new-total w rects (ids k) seats (k₀ .seats-long)
+
+    whole-at : (k : ℕ) → k < m → Whole (whds k) ((f .ledger (ids k) ++ newBoxes rects (placementsOf seats) (ids k)) ++ getD frees k [])
+    whole-at k h =
+        let w = good .whole k h in
+        let old = f .ledger (ids k) in
+        let fresh = newBoxes rects (placementsOf seats) (ids k) in
+        whole-same (whds k) (old ++ freeAt c s k) ((old ++ fresh) ++ getD frees k []) w
+        (inside-both (whds k) (old ++ fresh) (getD frees k [])
+        (inside-both (whds k) old fresh (inside-first (whds k) old (freeAt c s k) (w .inside))
+        (each-inside (whds k) fresh (all-inside (whds k) fresh (new-weight (strays (whds k)) k ∙ k₀ .placed-in k h))))
+        (each-inside (whds k) (getD frees k []) (k₀ .free-in k h)))
+        (λ cx cy cz b.
+        omega (
+          arith,
+          held-append (old ++ fresh) (getD frees k []) cx cy cz,
+          held-append old fresh cx cy cz,
+          held-append old (freeAt c s k) cx cy cz,
+          held-total fresh cx cy cz,
+          new-weight (λ b. has b cx cy cz) k,
+          k₀ .cells k h cx cy cz,
+          ap (λ (l : List BinSection). held l cx cy cz) (getD-freeOf c s k [] h),
+        ))
+
+    placed-places : places (e .answer) ≡ true
+    placed-places = number-places (e .answer) (finished .number)
+
+    written-good : Good (hallOf (tableOf (binsWith c frees)) (storeOf frees) (afterPack (e .answer) rects (placementsOf seats) (f .ledger)))
+    written-good =
+        record {
+          sound-tables = written-sound c s frees (good .sound-tables) (k₀ .frees-long) few (k₀ .free-in);
+          whole = λ k b.
+              let h : k < m = omega (arith, written-count c s frees (good .sound-tables) (k₀ .frees-long) few) in
+              rw (
+                written-at c s frees (good .sound-tables) (k₀ .frees-long) few k h,
+                written-free c s frees (good .sound-tables) (k₀ .frees-long) few k h,
+                all-placed (e .answer) (ids k) (placementsOf seats) placed-places,
+              )
+              (whole-at k h);
+        }
+
+  pub pack-good : Good (packed f rects placements)
+  pack-good = go (ℕ-discrete (ordering.answerOf row (reply 0 0) .number) 0)
+    where
+      go : Dec (ordering.answerOf row (reply 0 0) .number ≡ 0) → Good (packed f rects placements)
+      go (no ne) = refused-good ne
+      go (yes z) =
+          let same : packOf c s rects placements ≡ written c (packing c s rects) =
+          row-of ∙ ordering.alone-passes (λ a. packOutcome a c s placements) (written c (packing c s rects)) (reply 0 0) row numbered z in
+          subst (λ (o : PackOutcome). Good (hallOf (o .chambers) (o .store) (afterPack (o .answer) rects (o .placements) (f .ledger)))) (sym (same ∙ written-is))
+          (written-good (ordering.all-pass row (reply 0 0) numbered z))

@@ -1,0 +1,168 @@
+-- A return leaves every chamber whole: an accepted box moves from the placed ones to the free ones, a refused one changes nothing.
+use Prim.Native.Nat.{ℕ, _+_, _<_}
+use mathlib.Core.Path.{_≡_, refl, sym, ap, _∙_, subst}
+use mathlib.Core.List.{List, [], _∷_, _++_}
+use mathlib.Core.Bool.{_&&_}
+use native.Mathlib.Decide.{ℕ-discrete}
+use native.Mathlib.Omega.{arith}
+use borrow.Author.Tests.{eq-eqb, ne-eqb}
+use lib.Dec.{eqb}
+use lib.ListN.{length, getD, set, length-set}
+use lib.Seq.{getD-set-same, getD-set-other}
+use Rattle.lists.specs.Sort.{Each, also}
+use Rattle.lists.proofs.Flags.{cond-yes, cond-no, and-both, and-no-first, and-no-second}
+use Rattle.bin_section.specs.declared.section.BinSection.{BinSection}
+use Rattle.bin_section.specs.declared.width_height_depth.WidthHeightDepth.{WidthHeightDepth}
+use Rattle.bin_section.specs.Sides.{sides}
+use Rattle.bin_section.specs.Replies.{reply, each}
+use Rattle.cells.specs.Whole.{Inside, Whole}
+use Rattle.cells.proofs.Grid.{has}
+use Rattle.cells.proofs.Held.{held, held-append, whole-same}
+use Rattle.cells.proofs.Insides.{inside-first, inside-second, inside-both, inside-more, inside-none}
+use Rattle.target_bin.specs.declared.chamber.TargetBin.{TargetBin}
+use Rattle.target_bin.specs.Chambers.{bin, chamberAt, chamberCount, chambersOf}
+use Rattle.target_bin.specs.Store.{freeAt, freeOf}
+use Rattle.target_bin.specs.Outcome.{Outcome, outcome, refused}
+use Rattle.target_bin.specs.Return.{chamberOf, returnOf}
+use Rattle.target_bin.proofs.Tables.{length-chambersOf, getD-chambersOf}
+use Rattle.target_bin.proofs.Parts.{length-freeOf, getD-freeOf}
+use Rattle.target_bin.proofs.ReturnModel.{Accepted, return-done, return-refusal, return-chambers, return-free, return-sound}
+use Rattle.custody.specs.Ledger.{In, first, later, takenOut, afterReturn}
+use Rattle.custody.specs.Run.{Hall, hallOf, takenBack}
+use Rattle.custody.proofs.Placements.{each-inside, inside-each}
+use Rattle.custody.proofs.Totals.{total, held-total, strays, none-strays, all-inside}
+use Rattle.custody.proofs.Ledgers.{taken-total}
+use Rattle.custody.proofs.Between.{Good, good-ledger, one-index}
+
+-- what holds of each box of a list holds of a box that stands in it
+in-list : (whd : WidthHeightDepth) (box : BinSection) {boxes : List BinSection} → In box boxes → Each (Inside whd) boxes → Inside whd box
+in-list whd box first (also p ps) = p
+in-list whd box (later q) (also p ps) = in-list whd box q ps
+
+module _ (f : Hall) (good : Good f) (id : ℕ) (box : BinSection) (there : returnOf (f .chambers) (f .store) id box .reply .number ≡ 0 → In box (f .ledger id)) where
+  abbrev c : List ℕ
+  c = f .chambers
+
+  abbrev s : List ℕ
+  s = f .store
+
+  abbrev o : Outcome
+  o = returnOf c s id box
+
+  abbrev at : ℕ
+  at = chamberOf c id
+
+  module _ (a : Accepted c s id box) (zero-reply : o .reply .number ≡ 0) where
+    d₀ : TargetBin
+    d₀ = bin 0 (sides 0 0 0) 0
+
+    many : chamberCount (o .chambers) ≡ chamberCount c
+    many =
+        sym (length-chambersOf (o .chambers))
+        ∙ ap length (return-chambers c s id box a)
+        ∙ length-set (chambersOf c) at (bin (chamberAt c at .id) (chamberAt c at .whd) (chamberAt c at .count + 1))
+        ∙ length-chambersOf c
+
+    same-bin : (j : ℕ) → j < chamberCount c → Dec (j ≡ at) → (chamberAt (o .chambers) j .id ≡ chamberAt c j .id) × (chamberAt (o .chambers) j .whd ≡ chamberAt c j .whd)
+    same-bin j h q =
+        let read : chamberAt (o .chambers) j ≡ getD (set (chambersOf c) at (bin (chamberAt c at .id) (chamberAt c at .whd) (chamberAt c at .count + 1))) j d₀ =
+        sym (getD-chambersOf (o .chambers) j d₀ (omega (arith, many))) ∙ ap (λ (l : List TargetBin). getD l j d₀) (return-chambers c s id box a) in
+        go q read
+      where
+        go : Dec (j ≡ at) → chamberAt (o .chambers) j ≡ getD (set (chambersOf c) at (bin (chamberAt c at .id) (chamberAt c at .whd) (chamberAt c at .count + 1))) j d₀ → (chamberAt (o .chambers) j .id ≡ chamberAt c j .id) × (chamberAt (o .chambers) j .whd ≡ chamberAt c j .whd)
+        go (yes e) read =
+            let set-here : getD (set (chambersOf c) at (bin (chamberAt c at .id) (chamberAt c at .whd) (chamberAt c at .count + 1))) j d₀ ≡ bin (chamberAt c at .id) (chamberAt c at .whd) (chamberAt c at .count + 1) =
+            ap (λ (m : ℕ). getD (set (chambersOf c) at (bin (chamberAt c at .id) (chamberAt c at .whd) (chamberAt c at .count + 1))) m d₀) e
+            ∙ getD-set-same (chambersOf c) at (bin (chamberAt c at .id) (chamberAt c at .whd) (chamberAt c at .count + 1)) d₀ (omega (arith, length-chambersOf c, a .known)) in (
+              ap (λ (b : TargetBin). b .id) (read ∙ set-here) ∙ ap (λ (m : ℕ). chamberAt c m .id) (sym e),
+              ap (λ (b : TargetBin). b .whd) (read ∙ set-here) ∙ ap (λ (m : ℕ). chamberAt c m .whd) (sym e),
+            )
+        go (no ne) read =
+            let p : chamberAt (o .chambers) j ≡ chamberAt c j =
+            read ∙ getD-set-other (chambersOf c) at j (bin (chamberAt c at .id) (chamberAt c at .whd) (chamberAt c at .count + 1)) d₀ ne ∙ getD-chambersOf c j d₀ h in
+            (ap (λ (b : TargetBin). b .id) p, ap (λ (b : TargetBin). b .whd) p)
+
+    free-read : (j : ℕ) → j < chamberCount c → freeAt (o .chambers) (o .store) j ≡ getD (set (freeOf c s) at (freeAt c s at ++ (box ∷ []))) j []
+    free-read j h =
+        sym (getD-freeOf (o .chambers) (o .store) j [] (omega (arith, many))) ∙ ap (λ (l : List (List BinSection)). getD l j []) (return-free c s id box a)
+
+    free-here : freeAt (o .chambers) (o .store) at ≡ freeAt c s at ++ (box ∷ [])
+    free-here = free-read at (a .known) ∙ getD-set-same (freeOf c s) at (freeAt c s at ++ (box ∷ [])) [] (omega (arith, length-freeOf c s, a .known))
+
+    free-there : (j : ℕ) → j < chamberCount c → (j ≡ at → ⊥) → freeAt (o .chambers) (o .store) j ≡ freeAt c s j
+    free-there j h ne = free-read j h ∙ getD-set-other (freeOf c s) at j (freeAt c s at ++ (box ∷ [])) [] ne ∙ getD-freeOf c s j [] h
+
+    -- the box moves from the placed ones to the free ones
+    moved-whole : (whd : WidthHeightDepth) (placed free : List BinSection) → In box placed → Whole whd (placed ++ free) → Whole whd (takenOut box placed ++ (free ++ (box ∷ [])))
+    unfolding held
+    moved-whole whd placed free p w =
+        let all = w .inside in
+        let none-out : total (strays whd) placed ≡ 0 = none-strays whd (inside-each whd placed (inside-first whd placed free all)) in
+        let split : strays whd box + total (strays whd) (takenOut box placed) ≡ total (strays whd) placed = taken-total (strays whd) box p in
+        let rest : Each (Inside whd) (takenOut box placed) = all-inside whd (takenOut box placed) (omega arith) in
+        let mine : Inside whd box = in-list whd box p (inside-each whd placed (inside-first whd placed free all)) in
+        whole-same whd (placed ++ free) (takenOut box placed ++ (free ++ (box ∷ []))) w
+        (inside-both whd (takenOut box placed) (free ++ (box ∷ [])) (each-inside whd (takenOut box placed) rest)
+        (inside-both whd free (box ∷ []) (inside-second whd placed free all) (inside-more whd box [] mine (inside-none whd))))
+        (λ cx cy cz h.
+        omega (
+          arith,
+          held-append (takenOut box placed) (free ++ (box ∷ [])) cx cy cz,
+          held-append free (box ∷ []) cx cy cz,
+          held-append placed free cx cy cz,
+          held-total placed cx cy cz,
+          held-total (takenOut box placed) cx cy cz,
+          taken-total (λ b. has b cx cy cz) box p,
+        ))
+
+    ledger-here : (j : ℕ) → j ≡ id → afterReturn (o .reply) id box (f .ledger) j ≡ takenOut box (f .ledger j)
+    unfolding afterReturn
+    ledger-here j e =
+        cond-yes (takenOut box (f .ledger j)) (f .ledger j) (eqb (o .reply .number) 0 && eqb id j)
+        (and-both (eqb (o .reply .number) 0) (eqb id j) (eq-eqb _ _ zero-reply) (eq-eqb _ _ (sym e)))
+
+    ledger-there : (j : ℕ) → (j ≡ id → ⊥) → afterReturn (o .reply) id box (f .ledger) j ≡ f .ledger j
+    unfolding afterReturn
+    ledger-there j ne =
+        cond-no (takenOut box (f .ledger j)) (f .ledger j) (eqb (o .reply .number) 0 && eqb id j)
+        (and-no-second (eqb (o .reply .number) 0) (eqb id j) (ne-eqb _ _ (λ e. ne (sym e))))
+
+    whole-at : (j : ℕ) → j < chamberCount c → Dec (j ≡ at) → Whole (chamberAt c j .whd) (afterReturn (o .reply) id box (f .ledger) (chamberAt c j .id) ++ freeAt (o .chambers) (o .store) j)
+    whole-at j h (yes e) =
+        rw (e, a .named, ledger-here id refl, free-here)
+        (moved-whole (chamberAt c at .whd) (f .ledger id) (freeAt c s at) (there zero-reply)
+        (subst (λ (m : ℕ). Whole (chamberAt c at .whd) (f .ledger m ++ freeAt c s at)) (a .named) (good .whole at (a .known))))
+    whole-at j h (no ne) =
+        rw (free-there j h ne, ledger-there (chamberAt c j .id) (λ e. ne (one-index c s (good .sound-tables) j at h (a .known) (e ∙ sym (a .named)))))
+        (good .whole j h)
+
+    accepted-good : Good (takenBack f id box)
+    accepted-good =
+        record {
+          sound-tables = return-sound c s id box a;
+          whole = λ j h.
+              let l : j < chamberCount c = omega (arith, many) in
+              let b = same-bin j l (ℕ-discrete j at) in
+              rw (b .0, b .1) (whole-at j l (ℕ-discrete j at));
+        }
+
+  -- a refused return leaves tables and ledger as they were
+  refused-ledger : (o .reply .number ≡ 0 → ⊥) → (j : ℕ) → afterReturn (o .reply) id box (f .ledger) j ≡ f .ledger j
+  unfolding afterReturn
+  refused-ledger ne j =
+      cond-no (takenOut box (f .ledger j)) (f .ledger j) (eqb (o .reply .number) 0 && eqb id j)
+      (and-no-first (eqb (o .reply .number) 0) (eqb id j) (ne-eqb _ _ ne))
+
+  refused-good : (o .reply .number ≡ 0 → ⊥) → Good (takenBack f id box)
+  refused-good ne =
+      let same : o ≡ outcome (o .reply) c s = return-refusal c s id box ne in
+      let g : Good (hallOf c s (afterReturn (o .reply) id box (f .ledger))) =
+      good-ledger c s (f .ledger) (afterReturn (o .reply) id box (f .ledger)) (refused-ledger ne) good in
+      subst (λ (p : Outcome). Good (hallOf (p .chambers) (p .store) (afterReturn (o .reply) id box (f .ledger)))) (sym same) g
+
+  pub return-good : Good (takenBack f id box)
+  return-good = go (ℕ-discrete (o .reply .number) 0)
+    where
+      go : Dec (o .reply .number ≡ 0) → Good (takenBack f id box)
+      go (yes e) = accepted-good (return-done c s id box e) e
+      go (no ne) = refused-good ne

@@ -1,0 +1,193 @@
+-- A run worked through: a pack that answers 7 and keeps an earlier group, a pack and a return refused by checks, a return, and a second pack.
+use Prim.Native.Nat.{ℕ}
+use mathlib.Core.Path.{_≡_, refl, sym, ap, _∙_, subst}
+use mathlib.Core.List.{List, [], _∷_, _++_}
+use native.Mathlib.Omega.{arith}
+use lib.ListN.{replicate}
+use Rattle.lists.specs.Lowest.{lowest, anyBelow}
+use Rattle.lists.specs.Pick.{picked}
+use Rattle.lists.specs.Sort.{insertBy, insertAll}
+use Rattle.lists.specs.Sum.{sumTo}
+use Rattle.lists.specs.Tab.{tab, removeAt, put}
+use Rattle.bin_section.specs.declared.reply.Reply.{Reply}
+use Rattle.bin_section.specs.declared.section.BinSection.{BinSection}
+use Rattle.bin_section.specs.Sides.{sides, sideOk}
+use Rattle.bin_section.specs.Section.{section, sectionAt}
+use Rattle.bin_section.specs.Overlap.{spansMeet, overlapsOf}
+use Rattle.bin_section.specs.Replies.{reply, inOrder}
+use Rattle.cells.specs.Whole.{volumes}
+use Rattle.sections.specs.Sections.{sections, joined, allWords}
+use Rattle.sections.specs.Inside.{spanInside, insideOf}
+use Rattle.try_place.specs.Splits.{sixSplits}
+use Rattle.try_place.specs.Choice.{chosen, ranksOf, bestOf, bestFrom, laterOf, betterOf}
+use Rattle.try_place.specs.Try.{fitOf}
+use Rattle.try_place.specs.Appended.{larger, keptOne, kept, appendedOf}
+use Rattle.target_bin.specs.Chambers.{chamberAt, chambersOf}
+use Rattle.target_bin.specs.Checks.{lengthsOk, idOk, shapeOk, chamberOk, badSections}
+use Rattle.target_bin.specs.Store.{partAt, freeAt, freeOf, partOf, storeOf}
+use Rattle.target_bin.specs.Outcome.{Outcome, outcome}
+use Rattle.target_bin.specs.Fresh.{freshTable, freshStore, freshOf}
+use Rattle.target_bin.specs.Return.{chamberOf, pushChecks, returnChecks, returned, returnOf}
+use Rattle.grouped_rects_to_place.specs.Rect.{rectAt}
+use Rattle.grouped_rects_to_place.specs.Checks.{badRect, repeatedId}
+use Rattle.grouped_rects_to_place.specs.Groups.{sameGroup, leadOf, isLead, share, groupVolume, keyWith, comesBefore, earlier, groupOrder, groupsOf}
+use Rattle.placing.specs.Rules.{placeFrom, placeOne, placeAll, placeGroup}
+use Rattle.rectangle_pack.specs.Order as order
+use Rattle.rectangle_pack.specs.Seats.{seated}
+use Rattle.rectangle_pack.specs.Packing.{rectsAt, trialIn, firstWhole, changed, packGroups}
+use Rattle.rectangle_pack.specs.Pack.{rectLengthsOk, noRoom, packChecks, start, packing, binsWith, PackOutcome, packOutcome, written, packOf}
+use Rattle.audit.specs.Audit as audit
+use Rattle.custody.specs.Ledger.{placedIn, boxOf, newBoxes, places, Ledger, nothing, afterPack, In, first, sameBox, takenOut, afterReturn}
+use Rattle.custody.specs.Run.{Hall, hallOf, freshHall, packed, takenBack, Run, fresh, packs, returns, auditAt, AuditAccepts}
+use Rattle.custody.proofs.Custody.{custody}
+
+abbrev box : ℕ → ℕ → ℕ → ℕ → ℕ → ℕ → BinSection
+box x y z w h d = section x y z (sides w h d)
+
+abbrev coil : ℕ → ℕ → ℕ → ℕ → ℕ → List ℕ
+coil id group w h d = id ∷ group ∷ w ∷ h ∷ d ∷ []
+
+-- ---- the jobs: one chamber of 10 x 10 x 1 with id 1; every table is lent with other words in it
+
+unfoldable lentChambers : List ℕ
+lentChambers = 1 ∷ 10 ∷ 10 ∷ 1 ∷ 77 ∷ []
+
+unfoldable lentStore : List ℕ
+lentStore = replicate 768 9
+
+-- a coil of 6 x 10 x 1, and a group of two, each 4 x 6 x 1
+unfoldable three : List ℕ
+three = coil 1 0 6 10 1 ++ coil 2 5 4 6 1 ++ coil 3 5 4 6 1
+
+-- a coil with a zero side
+unfoldable faulty : List ℕ
+faulty = coil 4 0 1 0 1
+
+-- the group of two alone
+unfoldable two : List ℕ
+two = coil 2 5 4 6 1 ++ coil 3 5 4 6 1
+
+unfoldable returnedBox : BinSection
+returnedBox = box 0 0 0 6 10 1
+
+-- ---- the tables after each job
+
+unfoldable chamberWith : ℕ → List ℕ
+chamberWith count = 1 ∷ 10 ∷ 10 ∷ 1 ∷ count ∷ []
+
+unfoldable free₀ : List BinSection
+free₀ = box 0 0 0 10 10 1 ∷ []
+
+unfoldable free₁ : List BinSection
+free₁ = box 6 0 0 4 10 1 ∷ []
+
+unfoldable free₄ : List BinSection
+free₄ = box 6 0 0 4 10 1 ∷ box 0 0 0 6 10 1 ∷ []
+
+unfoldable free₅ : List BinSection
+free₅ = box 0 6 0 6 4 1 ∷ box 4 0 0 2 6 1 ∷ box 6 6 0 4 4 1 ∷ []
+
+unfoldable records₁ : List ℕ
+records₁ = (1 ∷ 1 ∷ 0 ∷ 0 ∷ 0 ∷ []) ++ replicate 10 0
+
+unfoldable records₅ : List ℕ
+records₅ = (1 ∷ 1 ∷ 0 ∷ 0 ∷ 0 ∷ []) ++ (1 ∷ 1 ∷ 6 ∷ 0 ∷ 0 ∷ [])
+
+-- what an onlooker writes down, job by job
+
+unfoldable ledger₁ : Ledger
+ledger₁ = afterPack (reply 7 1) three records₁ nothing
+
+unfoldable ledger₂ : Ledger
+ledger₂ = afterPack (reply 4 0) faulty (replicate 5 9) ledger₁
+
+unfoldable ledger₃ : Ledger
+ledger₃ = afterReturn (reply 10 0) 1 (box 5 0 0 2 2 1) ledger₂
+
+unfoldable ledger₄ : Ledger
+ledger₄ = afterReturn (reply 0 1) 1 returnedBox ledger₃
+
+unfoldable ledger₅ : Ledger
+ledger₅ = afterPack (reply 0 0) two records₅ ledger₄
+
+-- ---- each job, worked through
+
+record Jobs : Type 0 where
+  -- fresh answers 0
+  freshly : freshOf lentChambers lentStore ≡ outcome (reply 0 0) (chamberWith 1) (partOf free₀)
+  -- the pack answers 7 for the group at index 1; the coil at index 0, served before it, stays
+  kept-first : packOf (chamberWith 1) (partOf free₀) three (replicate 15 9) ≡ packOutcome (reply 7 1) (chamberWith 1) (partOf free₁) records₁
+  -- a pack refused by check 4 changes nothing
+  refused : packOf (chamberWith 1) (partOf free₁) faulty (replicate 5 9) ≡ packOutcome (reply 4 0) (chamberWith 1) (partOf free₁) (replicate 5 9)
+  -- a return refused by check 10, since a free section shares a cell with the box, changes nothing
+  shared : returnOf (chamberWith 1) (partOf free₁) 1 (box 5 0 0 2 2 1) ≡ outcome (reply 10 0) (chamberWith 1) (partOf free₁)
+  -- the return answers 0
+  back : returnOf (chamberWith 1) (partOf free₁) 1 returnedBox ≡ outcome (reply 0 1) (chamberWith 2) (partOf free₄)
+  -- now the group fits: the second pack answers 0
+  again : packOf (chamberWith 2) (partOf free₄) two (replicate 10 9) ≡ packOutcome (reply 0 0) (chamberWith 3) (partOf free₅) records₅
+  -- the boxes placed in chamber 1 after each job
+  ledgers :
+      ledger₁ 1 ∷ ledger₂ 1 ∷ ledger₃ 1 ∷ ledger₄ 1 ∷ ledger₅ 1 ∷ []
+      ≡ (returnedBox ∷ []) ∷ (returnedBox ∷ []) ∷ (returnedBox ∷ []) ∷ [] ∷ (box 0 0 0 4 6 1 ∷ box 6 0 0 4 6 1 ∷ []) ∷ []
+  still-placed : In returnedBox (ledger₃ 1)
+  -- the audit accepts the chamber at the end
+  accepted : auditAt (hallOf (chamberWith 3) (partOf free₅) ledger₅) 0 ≡ audit.audited (reply 0 0) []
+  -- with a box left out of the ledger it would find a gap, and with the returned box still in it a shared cell
+  left-out : audit.auditOf (sides 10 10 1) (allWords (box 0 0 0 4 6 1 ∷ [])) (allWords free₅) .answer ≡ reply 18 0
+  still-in : audit.auditOf (sides 10 10 1) (allWords (returnedBox ∷ ledger₅ 1)) (allWords free₅) .answer ≡ reply 17 1
+
+jobs : Jobs
+unfolding lowest anyBelow picked sumTo tab removeAt put sectionAt spansMeet overlapsOf inOrder sections joined spanInside insideOf
+    sideOk volumes sixSplits chosen ranksOf bestOf bestFrom laterOf betterOf fitOf larger keptOne kept appendedOf insertBy insertAll
+    chamberAt chambersOf lengthsOk idOk shapeOk chamberOk badSections partAt freeAt freeOf partOf freshTable freshStore freshOf
+    chamberOf pushChecks returnChecks returned returnOf
+    rectAt badRect repeatedId sameGroup leadOf isLead share groupVolume keyWith comesBefore earlier groupOrder groupsOf
+    placeFrom placeOne placeAll placeGroup order.goesBefore order.tried order.trialOrder seated
+    rectsAt trialIn firstWhole changed packGroups rectLengthsOk noRoom packChecks start packing binsWith written packOf
+    placedIn boxOf newBoxes places afterPack sameBox takenOut afterReturn
+    lentChambers lentStore three faulty two returnedBox chamberWith free₀ free₁ free₄ free₅ records₁ records₅
+    auditAt audit.boxesOf audit.auditBoxes audit.lengthsOk audit.spanOutside audit.outside audit.sharesEarlier audit.auditReply audit.shownOf
+    audit.auditOf ledger₁ ledger₂ ledger₃ ledger₄ ledger₅
+jobs =
+    record {
+      freshly = refl;
+      kept-first = refl;
+      refused = refl;
+      shared = refl;
+      back = refl;
+      again = refl;
+      ledgers = refl;
+      still-placed = first;
+      accepted = refl;
+      left-out = refl;
+      still-in = refl;
+    }
+
+-- ---- they are a run, so the theorem speaks of it
+
+abbrev end : Hall
+end = hallOf (chamberWith 3) (partOf free₅) ledger₅
+
+run : Run end
+unfolding ledger₁ ledger₂ ledger₃ ledger₄ ledger₅
+run =
+    let r₀ : Run (hallOf (chamberWith 1) (partOf free₀) nothing) =
+    subst (λ (o : Outcome). Run (hallOf (o .chambers) (o .store) nothing)) (jobs .freshly)
+    (fresh lentChambers lentStore (ap (λ (o : Outcome). o .reply .number) (jobs .freshly))) in
+    let r₁ : Run (hallOf (chamberWith 1) (partOf free₁) ledger₁) =
+    subst (λ (o : PackOutcome). Run (hallOf (o .chambers) (o .store) (afterPack (o .answer) three (o .placements) nothing))) (jobs .kept-first)
+    (packs r₀ three (replicate 15 9)) in
+    let r₂ : Run (hallOf (chamberWith 1) (partOf free₁) ledger₂) =
+    subst (λ (o : PackOutcome). Run (hallOf (o .chambers) (o .store) (afterPack (o .answer) faulty (o .placements) ledger₁))) (jobs .refused)
+    (packs r₁ faulty (replicate 5 9)) in
+    let r₃ : Run (hallOf (chamberWith 1) (partOf free₁) ledger₃) =
+    subst (λ (o : Outcome). Run (hallOf (o .chambers) (o .store) (afterReturn (o .reply) 1 (box 5 0 0 2 2 1) ledger₂))) (jobs .shared)
+    (returns r₂ 1 (box 5 0 0 2 2 1) (λ z. absurd (omega (arith, z, ap (λ (o : Outcome). o .reply .number) (jobs .shared))))) in
+    let r₄ : Run (hallOf (chamberWith 2) (partOf free₄) ledger₄) =
+    subst (λ (o : Outcome). Run (hallOf (o .chambers) (o .store) (afterReturn (o .reply) 1 returnedBox ledger₃))) (jobs .back)
+    (returns r₃ 1 returnedBox (λ z. jobs .still-placed)) in
+    subst (λ (o : PackOutcome). Run (hallOf (o .chambers) (o .store) (afterPack (o .answer) two (o .placements) ledger₄))) (jobs .again)
+    (packs r₄ two (replicate 10 9))
+
+accepts : AuditAccepts end
+accepts = custody run

@@ -1,0 +1,2 @@
+pub mod Ledger
+pub mod Run
