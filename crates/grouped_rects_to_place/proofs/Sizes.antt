@@ -20,6 +20,7 @@ use Rattle.lists.proofs.Picks.{pick-each, pick-rising}
 use Rattle.lists.proofs.Sorts.{each-map, each-two-map, sort-permuted, sort-each, permuted-two}
 use Rattle.lists.proofs.Sums.{sum-ext, sum-swap, sum-all, sum-one, sum-part}
 use Rattle.grouped_rects_to_place.specs.declared.rect_to_place.RectToPlace.{RectToPlace}
+use Rattle.grouped_rects_to_place.proofs.Parting.{same-itself, same-back, same-through, lead-within, lead-same, lead-lead, member-lead}
 use Rattle.grouped_rects_to_place.specs.Groups.{sameGroup, leadOf, isLead, leads, members, earlier, groupOrder, groupsOf}
 
 -- ---- sums over lists
@@ -132,68 +133,13 @@ module _ (r : ℕ → RectToPlace) where
             eqb-true _ _ (and-second (ltb 0 (r i .group)) (eqb (r i .group) (r j .group)) q),
           )
 
-  pub same-said : (i j : ℕ) → Same i j → sameGroup r i j ≡ true
-  unfolding sameGroup
-  same-said i j (inl e) = rw (eq-eqb i j e)
-  same-said i j (inr (p, q)) = go (eqb i j) (and-both (ltb 0 (r i .group)) (eqb (r i .group) (r j .group)) (lt-ltb _ _ p) (eq-eqb _ _ q))
-    where
-      go :
-          (t : Bool)
-          → (ltb 0 (r i .group) && eqb (r i .group) (r j .group)) ≡ true
-          → (t || (ltb 0 (r i .group) && eqb (r i .group) (r j .group))) ≡ true
-      go true e = refl
-      go false e = e
-
-  pub same-back : (i j : ℕ) → sameGroup r i j ≡ true → sameGroup r j i ≡ true
-  same-back i j e = same-said j i (go (same-says i j e))
-    where
-      go : Same i j → Same j i
-      go (inl p) = inl (sym p)
-      go (inr (p, q)) = inr (rw q at p, sym q)
-
-  pub same-through : (i j k : ℕ) → sameGroup r i j ≡ true → sameGroup r j k ≡ true → sameGroup r i k ≡ true
-  same-through i j k e f = same-said i k (go (same-says i j e) (same-says j k f))
-    where
-      go : Same i j → Same j k → Same i k
-      go (inl p) q = subst (λ (m : ℕ). Same m k) (sym p) q
-      go (inr p) (inl q) = subst (λ (m : ℕ). Same i m) q (inr p)
-      go (inr (p, q)) (inr (u, v)) = inr (p, q ∙ v)
-
-  -- the first index of a group is of the group, and none before it is
-  pub lead-same : (i : ℕ) → sameGroup r (leadOf r i) i ≡ true
-  unfolding leadOf
-  lead-same i = go (eq-or-lt-of-le (lowest-most i (λ j. sameGroup r j i)))
-    where
-      go : (lowest i (λ j. sameGroup r j i) ≡ i) ⊎ (lowest i (λ j. sameGroup r j i) < i) → sameGroup r (lowest i (λ j. sameGroup r j i)) i ≡ true
-      go (inl e) = same-said _ i (inl e)
-      go (inr l) = lowest-fires i (λ j. sameGroup r j i) l
-
-  pub lead-most : (i : ℕ) → leadOf r i ≤ i
-  unfolding leadOf
-  lead-most i = lowest-most i (λ j. sameGroup r j i)
-
-  before-lead : (i : ℕ) → None (leadOf r i) (λ j. sameGroup r j i)
-  unfolding leadOf
-  before-lead i = none-below-lowest i (λ j. sameGroup r j i)
-
   lead-none : (i : ℕ) → isLead r i ≡ true → None i (λ j. sameGroup r j i)
   unfolding isLead leadOf
   lead-none i e = none-of-lowest i (λ j. sameGroup r j i) (le-of-eq (sym (eqb-true _ _ e)))
 
-  none-lead : (i : ℕ) → None i (λ j. sameGroup r j i) → isLead r i ≡ true
-  unfolding isLead leadOf
-  none-lead i p = eq-eqb _ _ (lowest-none i (λ j. sameGroup r j i) p)
-
   false-of : (t : Bool) → (t ≡ true → ⊥) → t ≡ false
   false-of true h = absurd (h refl)
   false-of false h = refl
-
-  pub lead-lead : (i : ℕ) → isLead r (leadOf r i) ≡ true
-  lead-lead i =
-      none-lead (leadOf r i)
-      (record {
-        at = λ j h. false-of _ (λ e. true-false (sym (same-through j (leadOf r i) i e (lead-same i)) ∙ before-lead i .at j h));
-      })
 
   -- two groups share no rectangle
   pub one-lead :
@@ -203,12 +149,7 @@ module _ (r : ℕ → RectToPlace) where
       → sameGroup r i j ≡ true
       → sameGroup r k j ≡ true
       → i ≡ k
-  one-lead i k j p q e f = go (decLt i k) (decLt k i)
-    where
-      go : Dec (i < k) → Dec (k < i) → i ≡ k
-      go (yes l) b = absurd (true-false (sym (same-through i j k e (same-back k j f)) ∙ lead-none k q .at i l))
-      go (no a) (yes l) = absurd (true-false (sym (same-through k j i f (same-back i j e)) ∙ lead-none i p .at k l))
-      go (no a) (no b) = omega arith
+  one-lead i k j p q e f = member-lead r i j p e ∙ sym (member-lead r k j q f)
 
 -- ---- the groups of a table
 
@@ -241,7 +182,7 @@ module _ (n : ℕ) (r : ℕ → RectToPlace) where
       omega (
         arith,
         sum-one n (λ i. counted i j) (λ i b. bit (isLead r i && sameGroup r i j)) (λ i k l b p q. apart i k l (fires _ p) (fires _ q)),
-        sum-part n (λ i. counted i j) (leadOf r j) (omega (arith, lead-most r j)),
+        sum-part n (λ i. counted i j) (leadOf r j) (omega (arith, lead-within r j)),
         here,
       )
     where
@@ -275,7 +216,7 @@ module _ (n : ℕ) (r : ℕ → RectToPlace) where
 
   pub group-of : (i : ℕ) → i < n → isLead r i ≡ true → Group n r (members n r i) i
   group-of i h e =
-      let f : (rest : List ℕ) × (members n r i ≡ i ∷ rest) = pick-first n i (sameGroup r i) before h (same-said r i i (inl refl)) in
+      let f : (rest : List ℕ) × (members n r i ≡ i ∷ rest) = pick-first n i (sameGroup r i) before h (same-itself r i) in
       record {
         is = refl;
         lead-below = h;
@@ -304,7 +245,7 @@ module _ (n : ℕ) (r : ℕ → RectToPlace) where
   -- an ungrouped rectangle is a group of its own
   pub ungrouped-alone : (i : ℕ) → i < n → r i .group ≡ 0 → members n r i ≡ i ∷ []
   ungrouped-alone i h z =
-      let f : (rest : List ℕ) × (members n r i ≡ i ∷ rest) = pick-first n i (sameGroup r i) before h (same-said r i i (inl refl)) in
+      let f : (rest : List ℕ) × (members n r i ≡ i ∷ rest) = pick-first n i (sameGroup r i) before h (same-itself r i) in
       f .1
       ∙ ap (λ (l : List ℕ). i ∷ l)
       (only-one (f .0) (rw (f .1) at (each-map (λ j p. itself j (p .1)) (pick-each n (sameGroup r i))))

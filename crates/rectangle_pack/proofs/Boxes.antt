@@ -22,7 +22,7 @@ use Rattle.bin_section.specs.declared.width_height_depth.WidthHeightDepth.{Widt
 use Rattle.bin_section.specs.Section.{sectionAt, zeroSection}
 use Rattle.bin_section.specs.Sides.{volumeOf, sideOk, sidesOk}
 use Rattle.sections.specs.Sections.{sections}
-use Rattle.sections.proofs.Bounding.{Inside}
+use Rattle.bin_section.specs.Inside.{Inside}
 use Rattle.try_place.specs.declared.packed_location.PackedLocation.{PackedLocation}
 use Rattle.try_place.specs.Try.{Reachable}
 use Rattle.try_place.proofs.Remaining.{Within}

@@ -1,4 +1,3 @@
 pub mod Chunks
 pub mod Reading
 pub mod Moves
-pub mod Bounding

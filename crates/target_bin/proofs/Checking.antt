@@ -12,7 +12,7 @@ use Rattle.lists.proofs.Flags.{and-no-first, and-no-second}
 use Rattle.lists.proofs.Lowests.{None, none-of-lowest}
 use Rattle.bin_section.specs.Replies.{reply}
 use Rattle.sections.specs.Inside.{outsideAt}
-use Rattle.sections.proofs.Bounding.{any-lowest}
+use Rattle.lists.proofs.Lowests.{any-lowest}
 use Rattle.target_bin.specs.declared.chamber.TargetBin.{TargetBin}
 use Rattle.target_bin.specs.Chambers.{chamberAt, chamberCount}
 use Rattle.target_bin.specs.Store.{partAt}

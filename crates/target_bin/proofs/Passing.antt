@@ -17,7 +17,8 @@ use Rattle.bin_section.specs.Sides.{sideOk, sidesOk}
 use Rattle.bin_section.specs.Section.{sectionAt}
 use Rattle.bin_section.specs.Replies.{reply, each}
 use Rattle.sections.specs.Inside.{outsideAt}
-use Rattle.sections.proofs.Bounding.{Inside, inside→, →inside}
+use Rattle.bin_section.specs.Inside.{Inside}
+use Rattle.bin_section.proofs.Bounding.{inside→, →inside}
 use Rattle.target_bin.specs.Chambers.{chamberAt, chamberCount}
 use Rattle.target_bin.specs.Store.{partAt}
 use Rattle.target_bin.specs.Checks.{lengthsOk, idOk, shapeOk, chamberOk, badShape, badChamber, badSections, check1, check2, check3, tableChecks, Counted, Shaped}

@@ -23,7 +23,9 @@ use Rattle.bin_section.proofs.Sharing.{shares→overlaps, overlaps→shares}
 use Rattle.bin_section.specs.Replies.{Check, reply, once, each, inOrder}
 use Rattle.sections.specs.Sections.{sections}
 use Rattle.sections.specs.Inside.{insideOf, sharesAt}
-use Rattle.sections.proofs.Bounding.{Inside, inside→, any-lowest, →inside}
+use Rattle.bin_section.specs.Inside.{Inside}
+use Rattle.bin_section.proofs.Bounding.{inside→, →inside}
+use Rattle.lists.proofs.Lowests.{any-lowest}
 use Rattle.sections.proofs.Moves.{appended}
 use Rattle.sections.proofs.Reading.{sectionAt-put-same, sectionAt-put-other}
 use Rattle.target_bin.specs.declared.chamber.TargetBin.{TargetBin}

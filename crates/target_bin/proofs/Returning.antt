@@ -17,7 +17,7 @@ use Rattle.bin_section.specs.Replies.{Check, reply, once, each, inOrder}
 use Rattle.sections.specs.Inside.{insideOf, sharesAt}
 use Rattle.target_bin.specs.declared.chamber.TargetBin.{TargetBin}
 use Rattle.target_bin.specs.Return.{pushChecks, returnChecks, stored, returned, returnOf}
-use Rattle.sections.proofs.Bounding.{any-lowest}
+use Rattle.lists.proofs.Lowests.{any-lowest}
 use Rattle.target_bin.specs.Chambers.{chamberAt, chamberCount, hasId, chamberOf}
 use Rattle.target_bin.specs.Store.{partAt}
 use Rattle.target_bin.specs.Checks.{tableChecks}
