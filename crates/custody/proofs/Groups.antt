@@ -1,5 +1,5 @@
 -- Each rectangle stands in one group only, and once.
-use Prim.Native.Nat.{ℕ, zero, suc, _+_, _≤_, _<_}
+use Prim.Native.Nat.{ℕ, _<_}
 use mathlib.Core.Path.{_≡_, refl, sym, ap, _∙_, subst}
 use mathlib.Core.Logic.{_⊎_, inl, inr}
 use mathlib.Core.List.{List, [], _∷_, map}
@@ -8,7 +8,7 @@ use native.Mathlib.Omega.{arith}
 use borrow.Author.Tests.{ltb-true, eqb-true, lt-ltb, eq-eqb}
 use lib.Dec.{ltb, eqb}
 use Rattle.lists.specs.Lowest.{lowest}
-use Rattle.lists.specs.Sort.{Each, none, also, EachTwo, no-two, also-two, sortBy}
+use Rattle.lists.specs.Sort.{Each, none, also, EachTwo, no-two, also-two}
 use Rattle.lists.proofs.Flags.{true-false, and-both, and-first, and-second}
 use Rattle.lists.proofs.Lowests.{none-of-lowest}
 use Rattle.lists.proofs.Picks.{pick-each, pick-rising}

@@ -1,28 +1,25 @@
 -- A pack leaves every chamber whole: what was free is free still or lies in a box that its records place there; a pack refused by a
 -- check changes nothing.
-use Prim.Native.Nat.{ℕ, zero, suc, _+_, _*_, _≤_, _<_}
+use Prim.Native.Nat.{ℕ, _+_, _*_, _≤_, _<_}
 use mathlib.Core.Path.{_≡_, refl, sym, ap, _∙_, subst}
 use mathlib.Core.Logic.{_⊎_, inl, inr}
 use mathlib.Core.List.{List, [], _∷_, _++_}
-use mathlib.Core.Bool.{Bool, true, false, _&&_, _||_, not, cond}
+use mathlib.Core.Bool.{Bool, true, false, _&&_, not, cond}
 use native.Mathlib.Decide.{ℕ-discrete}
 use native.Mathlib.Omega.{arith}
-use borrow.Author.Tests.{ltb-true, ltb-false, eq-eqb, ne-eqb, not-false}
+use borrow.Author.Tests.{ltb-true, ltb-false, ne-eqb, not-false}
 use lib.Dec.{ltb, leb, eqb}
 use lib.ListN.{length, getD, replicate, getD-replicate}
-use Rattle.lists.specs.Lowest.{lowest}
-use Rattle.lists.specs.Tab.{tab}
 use Rattle.lists.specs.Sort.{Each, none, also}
 use Rattle.lists.proofs.Flags.{cond-yes, cond-no, and-first, and-second, or-none}
 use Rattle.lists.proofs.Lowests.{None}
-use Rattle.lists.proofs.Sorts.{each-append, each-map, sort-each}
+use Rattle.lists.proofs.Sorts.{each-map, sort-each}
 use Rattle.bin_section.specs.declared.reply.Reply.{Reply}
 use Rattle.bin_section.specs.declared.section.BinSection.{BinSection}
 use Rattle.bin_section.specs.declared.width_height_depth.WidthHeightDepth.{WidthHeightDepth}
 use Rattle.bin_section.specs.Sides.{sideOk, sidesOk, Small}
-use Rattle.bin_section.specs.Section.{zeroSection, sectionAt}
 use Rattle.bin_section.specs.Replies.{Check, reply, once, each, inOrder}
-use Rattle.cells.specs.Whole.{Inside, AllInside, Whole}
+use Rattle.cells.specs.Whole.{Whole}
 use Rattle.cells.proofs.Grid.{has}
 use Rattle.cells.proofs.Held.{held, held-append, whole-same}
 use Rattle.cells.proofs.Insides.{inside-first, inside-second, inside-both}
@@ -31,9 +28,9 @@ use Rattle.target_bin.specs.declared.chamber.TargetBin.{TargetBin}
 use Rattle.target_bin.specs.Chambers.{chamberAt, chamberCount, tableOf}
 use Rattle.sections.proofs.Reading.{length-sections}
 use Rattle.target_bin.specs.Store.{partAt, freeAt, freeOf, storeOf}
-use Rattle.target_bin.specs.Checks.{lengthsOk, badChamber, badSections, check2, check3}
+use Rattle.target_bin.specs.Checks.{lengthsOk, check2, check3}
 use Rattle.target_bin.proofs.Ordering as ordering
-use Rattle.target_bin.proofs.Passing.{SidesInRange, Sound, sound, no-fault}
+use Rattle.target_bin.proofs.Passing.{SidesInRange, no-fault}
 use Rattle.target_bin.proofs.Parts.{length-freeOf, getD-freeOf}
 use Rattle.grouped_rects_to_place.specs.declared.rect_to_place.RectToPlace.{RectToPlace}
 use Rattle.grouped_rects_to_place.specs.Rect.{rectAt}
@@ -41,14 +38,14 @@ use Rattle.grouped_rects_to_place.specs.Checks.{badRect, repeatedId}
 use Rattle.grouped_rects_to_place.specs.Groups.{groupsOf}
 use Rattle.rectangle_pack.specs.Order.{tried, trialOrder}
 use Rattle.rectangle_pack.specs.Seats.{Seat, unplaced, placementsOf}
-use Rattle.rectangle_pack.specs.Packing.{State, state, Ended, packGroups}
+use Rattle.rectangle_pack.specs.Packing.{state, Ended}
 use Rattle.rectangle_pack.specs.Pack.{rectCount, rectLengthsOk, noRoom, packChecks, start, packing, binsWith, PackOutcome, packOutcome, written, packOf}
-use Rattle.custody.specs.Ledger.{Ledger, newBoxes, places, afterPack}
-use Rattle.custody.specs.Run.{Hall, hallOf, packed, placedAt}
-use Rattle.custody.proofs.Between.{Good, good-ledger, one-index}
+use Rattle.custody.specs.Ledger.{newBoxes, places, afterPack}
+use Rattle.custody.specs.Run.{Hall, hallOf, packed, SameChambers, placedAt}
+use Rattle.custody.proofs.Between.{Good, good-ledger, same-chambers, one-index}
 use Rattle.custody.proofs.Groups.{groups-disjoint, groups-distinct, groups-below}
 use Rattle.custody.proofs.Ledgers.{new-total}
-use Rattle.custody.proofs.Packs.{Ready, Conserved, Finished, start-conserved, groups-conserved}
+use Rattle.custody.proofs.Packs.{Conserved, Finished, start-conserved, groups-conserved}
 use Rattle.custody.proofs.Placements.{Sided, each-inside, inside-each}
 use Rattle.custody.proofs.Seating.{seatTotal, Waiting, seats-few}
 use Rattle.custody.proofs.Totals.{total, held-total, strays, all-inside}
@@ -172,14 +169,6 @@ module _ (f : Hall) (good : Good f) (rects placements : List ℕ) where
   unfolding written
   written-is = refl
 
-  refused-good : (ordering.answerOf row (reply 0 0) .number ≡ 0 → ⊥) → Good (packed f rects placements)
-  refused-good ne =
-      let a : Reply = ordering.answerOf row (reply 0 0) in
-      let same : packOf c s rects placements ≡ packOutcome a c s placements =
-      row-of ∙ ordering.alone-fires (λ b. packOutcome b c s placements) (written c (packing c s rects)) (reply 0 0) row refl ne in
-      subst (λ (o : PackOutcome). Good (hallOf (o .chambers) (o .store) (afterPack (o .answer) rects (o .placements) (f .ledger)))) (sym same)
-      (good-ledger c s (f .ledger) (afterPack a rects placements (f .ledger)) (λ id. nothing-placed a id (places-none a ne (low-answer (reply 0 0) low (omega arith)))) good)
-
   -- ---- past the checks
 
   module _ (pass : ordering.AllPass row) where
@@ -276,13 +265,43 @@ module _ (f : Hall) (good : Good f) (rects placements : List ℕ) where
               (whole-at k h);
         }
 
-  pub pack-good : Good (packed f rects placements)
-  pack-good = go (ℕ-discrete (ordering.answerOf row (reply 0 0) .number) 0)
+  -- either way
+  data Outcomes : Type 0 where
+    unchanged : (a : Reply) → packOf c s rects placements ≡ packOutcome a c s placements → places a ≡ false → Outcomes
+    changed : ordering.AllPass row → packOf c s rects placements ≡ written c (packing c s rects) → Outcomes
+
+  outcomes : Outcomes
+  outcomes = go (ℕ-discrete (ordering.answerOf row (reply 0 0) .number) 0)
     where
-      go : Dec (ordering.answerOf row (reply 0 0) .number ≡ 0) → Good (packed f rects placements)
-      go (no ne) = refused-good ne
+      go : Dec (ordering.answerOf row (reply 0 0) .number ≡ 0) → Outcomes
+      go (no ne) =
+          unchanged (ordering.answerOf row (reply 0 0))
+          (row-of ∙ ordering.alone-fires (λ b. packOutcome b c s placements) (written c (packing c s rects)) (reply 0 0) row refl ne)
+          (places-none (ordering.answerOf row (reply 0 0)) ne (low-answer (reply 0 0) low (omega arith)))
       go (yes z) =
-          let same : packOf c s rects placements ≡ written c (packing c s rects) =
-          row-of ∙ ordering.alone-passes (λ a. packOutcome a c s placements) (written c (packing c s rects)) (reply 0 0) row numbered z in
+          changed (ordering.all-pass row (reply 0 0) numbered z)
+          (row-of ∙ ordering.alone-passes (λ a. packOutcome a c s placements) (written c (packing c s rects)) (reply 0 0) row numbered z)
+
+  pub pack-good : Good (packed f rects placements)
+  pack-good = go outcomes
+    where
+      go : Outcomes → Good (packed f rects placements)
+      go (unchanged a same no-places) =
+          subst (λ (o : PackOutcome). Good (hallOf (o .chambers) (o .store) (afterPack (o .answer) rects (o .placements) (f .ledger)))) (sym same)
+          (good-ledger c s (f .ledger) (afterPack a rects placements (f .ledger)) (λ id. nothing-placed a id no-places) good)
+      go (changed pass same) =
           subst (λ (o : PackOutcome). Good (hallOf (o .chambers) (o .store) (afterPack (o .answer) rects (o .placements) (f .ledger)))) (sym (same ∙ written-is))
-          (written-good (ordering.all-pass row (reply 0 0) numbered z))
+          (written-good pass)
+
+  pub pack-same : SameChambers (f .chambers) (packOf (f .chambers) (f .store) rects placements .chambers)
+  pack-same = go outcomes
+    where
+      go : Outcomes → SameChambers c (packOf c s rects placements .chambers)
+      go (unchanged a same no-places) = subst (λ (o : PackOutcome). SameChambers c (o .chambers)) (sym same) (same-chambers c)
+      go (changed pass same) =
+          subst (λ (o : PackOutcome). SameChambers c (o .chambers)) (sym (same ∙ written-is))
+          (record {
+            many = written-count c s (frees pass) (good .sound-tables) (k₀ pass .frees-long) (few pass);
+            ids = λ k h. ap (λ (b : TargetBin). b .id) (written-at c s (frees pass) (good .sound-tables) (k₀ pass .frees-long) (few pass) k h);
+            sides = λ k h. ap (λ (b : TargetBin). b .whd) (written-at c s (frees pass) (good .sound-tables) (k₀ pass .frees-long) (few pass) k h);
+          })

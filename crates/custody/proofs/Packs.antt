@@ -1,8 +1,8 @@
 -- The packing of the groups keeps each cell: in each chamber what was free is free still, or lies in the box of a rectangle seated there.
-use Prim.Native.Nat.{ℕ, zero, suc, _+_, _*_, _≤_, _<_}
-use mathlib.Core.Path.{_≡_, refl, sym, ap, _∙_, subst}
+use Prim.Native.Nat.{ℕ, suc, _+_, _*_, _≤_, _<_}
+use mathlib.Core.Path.{_≡_, refl, sym, ap, _∙_}
 use mathlib.Core.Logic.{_⊎_, inl, inr}
-use mathlib.Core.List.{List, [], _∷_, map}
+use mathlib.Core.List.{List, [], _∷_}
 use mathlib.Core.Bool.{Bool, true, false, cond}
 use native.Mathlib.Nat.{mul-zero}
 use native.Mathlib.Decide.{ℕ-discrete}
@@ -11,14 +11,11 @@ use borrow.Author.Tests.{ltb-true}
 use lib.Dec.{ltb}
 use lib.ListN.{length, getD, set, replicate, length-set, length-replicate, getD-replicate}
 use lib.Seq.{getD-set-same, getD-set-other}
-use Rattle.lists.specs.Lowest.{lowest}
-use Rattle.lists.specs.Sum.{sumTo}
-use Rattle.lists.specs.Sort.{Each, none, also, EachTwo, no-two, also-two}
+use Rattle.lists.specs.Sort.{Each, none, also, EachTwo, also-two}
 use Rattle.lists.proofs.Flags.{true-false}
 use Rattle.lists.proofs.Lowests.{lowest-fires}
 use Rattle.lists.proofs.Sorts.{each-map, each-both, each-at}
 use Rattle.lists.proofs.Sums.{sum-all}
-use Rattle.bin_section.specs.declared.rect_to_insert.RectToInsert.{RectToInsert}
 use Rattle.bin_section.specs.declared.section.BinSection.{BinSection}
 use Rattle.bin_section.specs.declared.width_height_depth.WidthHeightDepth.{WidthHeightDepth}
 use Rattle.bin_section.specs.Sides.{Small}
@@ -28,7 +25,7 @@ use Rattle.cells.proofs.Held.{held}
 use Rattle.grouped_rects_to_place.specs.declared.rect_to_place.RectToPlace.{RectToPlace}
 use Rattle.placing.specs.Rules.{Trial, stops, whole, placeGroup}
 use Rattle.try_place.specs.declared.packed_location.PackedLocation.{PackedLocation}
-use Rattle.rectangle_pack.specs.Seats.{Seat, unplaced, seat, seated}
+use Rattle.rectangle_pack.specs.Seats.{Seat, unplaced, seated}
 use Rattle.rectangle_pack.specs.Packing.{State, state, rectsAt, trialIn, isWhole, firstWhole, changedBy, changed, Ended, ended, packGroups}
 use Rattle.custody.proofs.Placements.{Sided, boxesAt, Kept, group-placing, placing-long, group-kept}
 use Rattle.custody.proofs.Totals.{total, held-total, strays, none-strays}

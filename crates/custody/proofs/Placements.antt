@@ -9,7 +9,7 @@ use borrow.Author.Tests.{eqb-false}
 use lib.Dec.{eqb}
 use lib.ListN.{length, getD, length-append}
 use Rattle.lists.specs.Tab.{removeAt}
-use Rattle.lists.specs.Sort.{Each, none, also, sortBy}
+use Rattle.lists.specs.Sort.{Each, none, also}
 use Rattle.lists.proofs.Sorts.{each-append, each-at, sort-each}
 use Rattle.lists.proofs.Tabs.{length-removeAt}
 use Rattle.bin_section.specs.declared.width_height_depth.WidthHeightDepth.{WidthHeightDepth}
@@ -22,14 +22,7 @@ use Rattle.cells.proofs.Grid.{has}
 use Rattle.cells.proofs.Held.{held, held-append, held-removed}
 use Rattle.try_place.specs.declared.packed_location.PackedLocation.{PackedLocation}
 use Rattle.try_place.specs.declared.Placement.{Placement}
-use Rattle.try_place.specs.declared.Placement.the-variants.{
-  Placed,
-  BadSection,
-  BadRectangle,
-  PlacementWiderThanBinSection,
-  PlacementTallerThanBinSection,
-  PlacementDeeperThanBinSection,
-}
+use Rattle.try_place.specs.declared.Placement.the-variants.{Placed, BadSection, BadRectangle, PlacementWiderThanBinSection, PlacementTallerThanBinSection, PlacementDeeperThanBinSection}
 use Rattle.try_place.specs.declared.Tried.{Tried}
 use Rattle.try_place.specs.Splits.{Fitting, sixSplits}
 use Rattle.try_place.specs.Choice.{chosen}
@@ -37,7 +30,7 @@ use Rattle.try_place.specs.Try.{Reachable, fitOf, placedOf, onPlaced}
 use Rattle.try_place.specs.Appended.{larger, keptOne, kept, appendedOf}
 use Rattle.try_place.proofs.Choosing.{chosen-below}
 use Rattle.try_place.proofs.Remaining.{Within, ThreeWithin, placed-fitting, placed-is, placed-within, placed-three}
-use Rattle.placing.specs.Rules.{One, nowhere, placed, placeFrom, placeOne, Trial, stops, whole, afterOne, next, placeAll, placeGroup}
+use Rattle.placing.specs.Rules.{One, nowhere, placed, placeFrom, placeOne, stops, whole, afterOne, placeAll, placeGroup}
 use Rattle.placing.proofs.Reaches.{each-remove, three}
 use Rattle.custody.proofs.Cut.{Fits, placedBox, row-cut, held-appended, length-appended}
 
