@@ -1,4 +1,3 @@
-pub mod Anys
 pub mod Means
 pub mod Replying
 pub mod Summing

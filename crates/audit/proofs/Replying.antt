@@ -15,8 +15,9 @@ use Rattle.bin_section.specs.declared.section.BinSection.{BinSection}
 use Rattle.bin_section.specs.declared.reply.Reply.{Reply}
 use Rattle.bin_section.specs.Sides.{volumeOf, sidesOk}
 use Rattle.bin_section.specs.Replies.{reply, inOrder}
+use Rattle.bin_section.specs.Inside.{outside}
 use Rattle.cells.specs.Whole.{boxAt, volumes}
-use Rattle.audit.specs.Audit.{auditBoxes, lengthsOk, outside, sharesEarlier, auditReply, shownOf, audited, auditOf}
+use Rattle.audit.specs.Audit.{auditBoxes, lengthsOk, sharesEarlier, auditReply, shownOf, Audited, audited, auditOf}
 use Rattle.audit.proofs.TwoLists.{boxes-length}
 
 -- what lengths that pass check 1 have
@@ -126,3 +127,8 @@ module _ (whd : WidthHeightDepth) (placed free : List ℕ) (r : Reply) (e : r �
   pub audit-silent : namesBox r ≡ false → audited r [] ≡ auditOf whd placed free
   unfolding auditOf shownOf
   audit-silent h = rw (← e, h)
+
+-- the reply of an audit, without the words that it shows
+pub answer-of : (whd : WidthHeightDepth) (placed free shown : List ℕ) (r : Reply) → audited r shown ≡ auditOf whd placed free → r ≡ auditReply whd placed free
+unfolding auditOf
+answer-of whd placed free shown r e = ap (λ (a : Audited). a .answer) e

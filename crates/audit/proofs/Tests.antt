@@ -1,13 +1,12 @@
 -- From the tests of the checks to cells: what it means that they fire, and that they do not.
-use Prim.Native.Nat.{ℕ, _+_, _≤_, _<_}
+use Prim.Native.Nat.{ℕ, _≤_, _<_}
 use mathlib.Core.Path.{_≡_, refl, sym, _∙_}
 use mathlib.Core.List.{List}
-use mathlib.Core.Bool.{Bool, true, false, _&&_, _||_}
-use native.Mathlib.Omega.{arith}
-use borrow.Author.Tests.{ltb-false, le-ltb, leb-true, eqb-false, ne-eqb}
-use lib.Dec.{eqb, ltb, leb}
+use mathlib.Core.Bool.{Bool, true, false, _&&_}
+use borrow.Author.Tests.{leb-true}
+use lib.Dec.{ltb, leb}
 use lib.ListN.{length}
-use Rattle.lists.proofs.Flags.{true-false, and-first, and-second, or-none, or-first, or-second}
+use Rattle.lists.proofs.Flags.{true-false, and-first, and-second}
 use Rattle.lists.proofs.Lowests.{None, any-none, any-some, none-any}
 use Rattle.bin_section.specs.declared.width_height_depth.WidthHeightDepth.{WidthHeightDepth}
 use Rattle.bin_section.specs.declared.section.BinSection.{BinSection}
@@ -15,8 +14,10 @@ use Rattle.bin_section.specs.Sides.{sideOk, sidesOk, Small}
 use Rattle.bin_section.specs.Cell.{SharesCell}
 use Rattle.bin_section.specs.Overlap.{overlapsOf}
 use Rattle.bin_section.proofs.Sharing.{overlaps→shares, shares→overlaps}
-use Rattle.cells.specs.Whole.{boxAt, Inside, AllInside}
-use Rattle.audit.specs.Audit.{spanOutside, outside, sharesEarlier}
+use Rattle.bin_section.specs.Inside.{outside}
+use Rattle.bin_section.proofs.Bounding.{not-outside→inside, inside→not-outside}
+use Rattle.cells.specs.Whole.{boxAt, AllInside}
+use Rattle.audit.specs.Audit.{sharesEarlier}
 
 -- ---- check 2
 
@@ -37,51 +38,6 @@ chamber-small whd h =
     }
 
 -- ---- 16
-
-span-inside : (o s c : ℕ) → spanOutside o s c ≡ false → (0 < s) × (o + s ≤ c)
-unfolding spanOutside
-span-inside o s c h =
-    let zero = eqb-false s 0 (or-first (eqb s 0) (ltb c (o + s)) h) in
-    (omega arith, ltb-false c (o + s) (or-second (eqb s 0) (ltb c (o + s)) h))
-
-inside-span : (o s c : ℕ) → 0 < s → o + s ≤ c → spanOutside o s c ≡ false
-unfolding spanOutside
-inside-span o s c p h = or-none (eqb s 0) (ltb c (o + s)) (ne-eqb s 0 (λ e. omega arith)) (le-ltb c (o + s) h)
-
-module _ (whd : WidthHeightDepth) (b : BinSection) where
-  onX : Bool
-  onX = spanOutside (b .x) (b .whd .width) (whd .width)
-
-  onY : Bool
-  onY = spanOutside (b .y) (b .whd .height) (whd .height)
-
-  onZ : Bool
-  onZ = spanOutside (b .z) (b .whd .depth) (whd .depth)
-
-  pub not-outside→inside : outside whd b ≡ false → Inside whd b
-  unfolding outside onX onY onZ
-  not-outside→inside h =
-      let yz = or-second onX (onY || onZ) h in
-      let x = span-inside _ _ _ (or-first onX (onY || onZ) h) in
-      let y = span-inside _ _ _ (or-first onY onZ yz) in
-      let z = span-inside _ _ _ (or-second onY onZ yz) in
-      record { wide = x .0; tall = y .0; deep = z .0; right = x .1; above = y .1; behind = z .1 }
-
-  pub inside→not-outside : Inside whd b → outside whd b ≡ false
-  unfolding outside onX onY onZ
-  inside→not-outside p =
-      or-none onX (onY || onZ) (inside-span _ _ _ (p .wide) (p .right))
-      (or-none onY onZ (inside-span _ _ _ (p .tall) (p .above)) (inside-span _ _ _ (p .deep) (p .behind)))
-
-  pub outside→not-inside : outside whd b ≡ true → ¬ (Inside whd b)
-  outside→not-inside h p = true-false (sym h ∙ inside→not-outside p)
-
-  pub not-inside→outside : ¬ (Inside whd b) → outside whd b ≡ true
-  not-inside→outside p = go (outside whd b) refl
-    where
-      go : (t : Bool) → outside whd b ≡ t → outside whd b ≡ true
-      go true e = e
-      go false e = absurd (p (not-outside→inside e))
 
 pub none-inside : (whd : WidthHeightDepth) (boxes : List BinSection) → None (length boxes) (λ i. outside whd (boxAt boxes i)) → AllInside whd boxes
 none-inside whd boxes p = record { at = λ i h. not-outside→inside whd (boxAt boxes i) (p .at i h) }

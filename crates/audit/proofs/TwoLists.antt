@@ -10,14 +10,13 @@ use lib.ListN.{length, getD, take, drop, length-append, List·getD-append, lengt
 use lib.Seq.{getD-append-add, take-append-le, drop-append-le, drop-append-add}
 use Rattle.lists.specs.Lowest.{lowest, anyBelow}
 use Rattle.lists.specs.Tab.{tab}
-use Rattle.lists.proofs.Lowests.{None, lowest-here, lowest-end}
+use Rattle.lists.proofs.Lowests.{None, lowest-here, lowest-end, any-same, any-parts}
 use Rattle.lists.proofs.Tabs.{length-tab, getD-tab, middle}
 use Rattle.bin_section.specs.declared.section.BinSection.{BinSection}
 use Rattle.bin_section.specs.Section.{sectionAt, zeroSection, wordsOf}
 use Rattle.bin_section.specs.Overlap.{overlapsOf}
 use Rattle.cells.specs.Whole.{boxAt}
 use Rattle.audit.specs.Audit.{boxesOf, auditBoxes, sharesEarlier}
-use Rattle.audit.proofs.Anys.{any-same, any-parts}
 
 -- how many words a part from n to n + 6 has
 pub six : (n : ℕ) → n + 6 - n ≡ 6

@@ -2,7 +2,7 @@
 use Prim.Native.Nat.{ℕ, _+_, _*_, _/_, _%_}
 use mathlib.Core.List.{List, [], _∷_, _++_}
 use mathlib.Core.Bool.{Bool, not, _&&_, _||_, cond}
-use lib.Dec.{eqb, ltb, leb}
+use lib.Dec.{eqb, leb}
 use lib.ListN.{length, take, drop}
 use Rattle.lists.specs.Lowest.{anyBelow}
 use Rattle.lists.specs.Tab.{tab}
@@ -12,6 +12,7 @@ use Rattle.bin_section.specs.declared.reply.Reply.{Reply}
 use Rattle.bin_section.specs.Sides.{volumeOf, sidesOk}
 use Rattle.bin_section.specs.Section.{sectionAt}
 use Rattle.bin_section.specs.Overlap.{overlapsOf}
+use Rattle.bin_section.specs.Inside.{outside}
 use Rattle.bin_section.specs.Replies.{reply, Check, once, each, inOrder}
 use Rattle.cells.specs.Whole.{boxAt, volumes}
 
@@ -27,15 +28,6 @@ auditBoxes placed free = boxesOf placed ++ boxesOf free
 unfoldable pub lengthsOk : ℕ → ℕ → Bool
 lengthsOk placed free = eqb (placed % 6) 0 && (eqb (free % 6) 0 && leb (placed / 6 + free / 6) 1024)
 
--- "a zero side or reaches past the chamber", along one axis and then along any. The sum is one of whole numbers.
-unfoldable pub spanOutside : ℕ → ℕ → ℕ → Bool
-spanOutside origin side chamber = eqb side 0 || ltb chamber (origin + side)
-
-unfoldable pub outside : WidthHeightDepth → BinSection → Bool
-outside whd b =
-    spanOutside (b .x) (b .whd .width) (whd .width)
-    || (spanOutside (b .y) (b .whd .height) (whd .height) || spanOutside (b .z) (b .whd .depth) (whd .depth))
-
 -- "a box shares a cell with an earlier one"
 unfoldable pub sharesEarlier : List BinSection → ℕ → Bool
 sharesEarlier boxes j = anyBelow j (λ i. overlapsOf (boxAt boxes i) (boxAt boxes j))
@@ -46,6 +38,7 @@ abbrev pub auditChecks : WidthHeightDepth → List ℕ → List ℕ → List Bin
 auditChecks whd placed free boxes =
     once 1 (not (lengthsOk (length placed) (length free)))
     ∷ once 2 (not (sidesOk whd))
+    -- "a box has a zero side or reaches past the chamber"
     ∷ each 16 (length boxes) (λ i. outside whd (boxAt boxes i))
     ∷ each 17 (length boxes) (sharesEarlier boxes)
     ∷ once 18 (not (eqb (volumes boxes) (volumeOf whd)))

@@ -7,26 +7,14 @@ ghost use Rattle.lists.specs.Lowest.{lowest, anyBelow};
 ghost use Rattle.bin_section.specs.Sides.{volumeOf, Small};
 ghost use Rattle.bin_section.specs.Section.{sectionAt};
 ghost use Rattle.bin_section.specs.Overlap.{overlapsOf};
+ghost use Rattle.bin_section.specs.Inside.{outside};
 ghost use Rattle.cells.specs.Whole.{boxAt, AllInside, volumes};
-ghost use Rattle.audit.specs.Audit.{auditBoxes, spanOutside, outside, sharesEarlier};
+ghost use Rattle.audit.specs.Audit.{auditBoxes, sharesEarlier};
 use crate::boxes::box_at;
 use crate::boxes::boxes_in;
 use bin_section::BinSection;
 use bin_section::WidthHeightDepth;
-
-// Along one axis: a zero side, or past the chamber. The end is a sum in 64 bits: in 32 it could wrap.
-fn span_outside(origin: u32, side: u32, chamber: u32) -> bool
-    ensures { λ r. ⌜ r ≡ spanOutside origin side chamber ⌝ }
-{
-    (side == 0) | ((chamber as u64) < (origin as u64) + (side as u64))
-}
-
-fn is_outside(whd: WidthHeightDepth, b: BinSection) -> bool
-    ensures { λ r. ⌜ r ≡ outside whd b ⌝ }
-{
-    span_outside(b.x, b.whd.width, whd.width)
-        | (span_outside(b.y, b.whd.height, whd.height) | span_outside(b.z, b.whd.depth, whd.depth))
-}
+use bin_section::inside;
 
 // The lowest box that has a zero side or reaches past the chamber; the number of boxes where none does.
 pub fn first_outside(whd: WidthHeightDepth, placed: &[u32], free: &[u32]) -> usize
@@ -35,7 +23,7 @@ pub fn first_outside(whd: WidthHeightDepth, placed: &[u32], free: &[u32]) -> usi
     let n = boxes_in(placed) + boxes_in(free);
     let mut i = 0;
     while i < n {
-        if is_outside(whd, box_at(placed, free, i)) {
+        if !inside(box_at(placed, free, i), whd) {
             return i;
         }
         i += 1;

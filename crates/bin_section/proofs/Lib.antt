@@ -1,3 +1,4 @@
-pub mod Volume
+pub mod Bounding
 pub mod Sharing
+pub mod Volume
 pub mod Words

@@ -2,4 +2,5 @@ pub mod Sides
 pub mod Section
 pub mod Cell
 pub mod Overlap
+pub mod Inside
 pub mod Replies

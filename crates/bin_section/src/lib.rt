@@ -1,10 +1,12 @@
-// The ground floor: sides, volume, a section and its words, overlap, replies.
+// The ground floor: sides, volume, a section and its words, inside, overlap, replies.
+mod bounds;
 mod overlaps;
 mod rect_to_insert;
 mod reply;
 mod section;
 mod width_height_depth;
 
+pub use bounds::inside;
 pub use overlaps::greater;
 pub use overlaps::lesser;
 pub use rect_to_insert::RectToInsert;

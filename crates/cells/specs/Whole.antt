@@ -1,28 +1,20 @@
 -- What it means in unit cells that a list of boxes fills a chamber.
 use mathlib.Core.Path.{_≡_}
 use mathlib.Core.List.{List, [], _∷_}
-use Prim.Native.Nat.{ℕ, _+_, _≤_, _<_}
+use Prim.Native.Nat.{ℕ, _+_, _<_}
 use lib.ListN.{length, getD}
 use Rattle.bin_section.specs.declared.width_height_depth.WidthHeightDepth.{WidthHeightDepth}
 use Rattle.bin_section.specs.declared.section.BinSection.{BinSection}
 use Rattle.bin_section.specs.Sides.{volumeOf}
 use Rattle.bin_section.specs.Section.{zeroSection}
 use Rattle.bin_section.specs.Cell.{HasCell, SharesCell}
+pub use Rattle.bin_section.specs.Inside.{Inside}
 
 -- the box at an index of the list
 abbrev pub boxAt : List BinSection → ℕ → BinSection
 boxAt boxes i = getD boxes i zeroSection
 
--- "lies inside with no zero side"
-pub record Inside (whd : WidthHeightDepth) (b : BinSection) : Type 0 where
-  pub wide : 0 < b .whd .width
-  pub tall : 0 < b .whd .height
-  pub deep : 0 < b .whd .depth
-  pub right : b .x + b .whd .width ≤ whd .width
-  pub above : b .y + b .whd .height ≤ whd .height
-  pub behind : b .z + b .whd .depth ≤ whd .depth
-
--- each box of the list does
+-- each box of the list "lies inside with no zero side"
 pub record AllInside (whd : WidthHeightDepth) (boxes : List BinSection) : Type 0 where
   pub at : (i : ℕ) → i < length boxes → Inside whd (boxAt boxes i)
 

@@ -3,6 +3,7 @@ use Prim.Native.Nat.{ℕ, _+_}
 use mathlib.Core.List.{List, [], _∷_, map}
 use mathlib.Core.Bool.{cond}
 use lib.Dec.{eqb}
+use Rattle.bin_section.specs.declared.width_height_depth.WidthHeightDepth.{WidthHeightDepth}
 use Rattle.bin_section.specs.declared.reply.Reply.{Reply}
 use Rattle.bin_section.specs.declared.section.BinSection.{BinSection}
 use Rattle.bin_section.specs.declared.rect_to_insert.RectToInsert.{RectToInsert}
@@ -14,6 +15,7 @@ use Rattle.try_place.specs.Appended.{appendedOf}
 use Rattle.target_bin.specs.Store.{freeOf}
 use Rattle.target_bin.specs.Return.{returnOf}
 use Rattle.rectangle_pack.specs.Pack.{PackOutcome, packOf}
+use Rattle.audit.specs.Audit.{Audited, auditOf}
 
 pub data Job : Type 0 where
   tries : BinSection → RectToInsert → Job
@@ -23,6 +25,8 @@ pub data Job : Type 0 where
   packs : List ℕ → List ℕ → List ℕ → List ℕ → Job
   -- the same, where the example says the reply and the detail alone
   replies : List ℕ → List ℕ → List ℕ → List ℕ → Job
+  -- sides, placed list, free list
+  audits : WidthHeightDepth → List ℕ → List ℕ → Job
 
 -- what an example says. A field that an example does not speak of is 0 or empty.
 pub record Outcome : Type 0 where
@@ -35,6 +39,8 @@ pub record Outcome : Type 0 where
   -- of a pack that is not refused by a check: the words of each placement, and the free sections of each chamber afterwards
   pub placements : List ℕ
   pub free : List (List BinSection)
+  -- of an audit: the words that it shows
+  pub shown : List ℕ
 
 unfoldable pub tried : BinSection → RectToInsert → Outcome
 tried s r =
@@ -48,11 +54,12 @@ tried s r =
       appended = appendedOf (t .sections);
       placements = [];
       free = [];
+      shown = [];
     }
 
 -- a job of which the example says the reply and the detail alone
 abbrev pub said : Reply → Outcome
-said r = record { reply = r .number; detail = r .detail; split = 0; volumes = []; appended = []; placements = []; free = [] }
+said r = record { reply = r .number; detail = r .detail; split = 0; volumes = []; appended = []; placements = []; free = []; shown = [] }
 
 unfoldable pub packed : PackOutcome → Outcome
 packed o =
@@ -64,6 +71,20 @@ packed o =
       appended = [];
       placements = o .placements;
       free = freeOf (o .chambers) (o .store);
+      shown = [];
+    }
+
+unfoldable pub audited : Audited → Outcome
+audited a =
+    record {
+      reply = a .answer .number;
+      detail = a .answer .detail;
+      split = 0;
+      volumes = [];
+      appended = [];
+      placements = [];
+      free = [];
+      shown = a .shown;
     }
 
 unfoldable pub answered : Job → Outcome
@@ -71,3 +92,4 @@ answered (tries s r) = tried s r
 answered (returns chambers store id box) = said (returnOf chambers store id box .reply)
 answered (packs chambers store rects placements) = packed (packOf chambers store rects placements)
 answered (replies chambers store rects placements) = said (packOf chambers store rects placements .answer)
+answered (audits whd placed free) = audited (auditOf whd placed free)

@@ -5,7 +5,6 @@ use mathlib.Core.List.{List, [], _∷_, _++_, map}
 use lib.ListN.{length, replicate}
 use Rattle.bin_section.specs.declared.section.BinSection.{BinSection}
 use Rattle.bin_section.specs.Sides.{sides, rectangle, sideOk}
-use Rattle.bin_section.specs.Section.{section}
 use Rattle.try_place.specs.Splits.{sixSplits}
 use Rattle.try_place.specs.Choice.{chosen, ranksOf, bestOf, bestFrom, laterOf, betterOf}
 use Rattle.try_place.specs.Try.{spanOk, fitOf, tryOf}
@@ -15,15 +14,15 @@ use Rattle.lists.specs.Lowest.{lowest, anyBelow}
 use Rattle.lists.specs.Pick.{picked}
 use Rattle.lists.specs.Sum.{sumTo}
 use Rattle.lists.specs.Tab.{tab, removeAt, put}
-use Rattle.bin_section.specs.Section.{sectionAt}
+use Rattle.bin_section.specs.Section.{section, sectionAt}
 use Rattle.bin_section.specs.Overlap.{spansMeet, overlapsOf}
 use Rattle.bin_section.specs.Replies.{inOrder}
-use Rattle.sections.specs.Sections.{sections, joined}
-use Rattle.sections.specs.Inside.{spanInside, insideOf}
-use Rattle.target_bin.specs.Chambers.{chamberAt}
+use Rattle.bin_section.specs.Inside.{spanInside, insideOf}
+use Rattle.sections.specs.Sections.{sections, joined, allWords}
+use Rattle.target_bin.specs.Chambers.{chamberAt, chamberOf}
 use Rattle.target_bin.specs.Checks.{lengthsOk, idOk, shapeOk, chamberOk, badSections}
 use Rattle.target_bin.specs.Store.{partAt, freeAt, freeOf, partOf, storeOf}
-use Rattle.target_bin.specs.Return.{chamberOf, pushChecks, returnChecks, returned, returnOf}
+use Rattle.target_bin.specs.Return.{pushChecks, returnChecks, returned, returnOf}
 use Rattle.grouped_rects_to_place.specs.Rect.{rectAt}
 use Rattle.grouped_rects_to_place.specs.Checks.{badRect, repeatedId}
 use Rattle.grouped_rects_to_place.specs.Groups.{sameGroup, leadOf, isLead, share, groupVolume, keyWith, comesBefore, earlier, groupOrder, groupsOf}
@@ -31,8 +30,10 @@ use Rattle.placing.specs.Rules.{placeFrom, placeOne, placeAll, placeGroup}
 use Rattle.rectangle_pack.specs.Order as order
 use Rattle.rectangle_pack.specs.Seats.{seated}
 use Rattle.rectangle_pack.specs.Packing.{rectsAt, trialIn, firstWhole, changed, packGroups}
-use Rattle.rectangle_pack.specs.Pack.{rectLengthsOk, noRoom, packChecks, start, packing, binsWith, written, packOf}
-use Rattle.examples.specs.Job.{Job, tries, returns, packs, replies, Outcome, tried, packed, answered}
+use Rattle.rectangle_pack.specs.Pack.{rectLengthsOk, noRoom, rectChecks, packChecks, start, packing, binsWith, written, packOf}
+use Rattle.cells.specs.Whole.{volumes}
+use Rattle.audit.specs.Audit as auditing
+use Rattle.examples.specs.Job.{Job, tries, returns, packs, replies, audits, Outcome, tried, packed, audited, answered}
 
 pub record Example : Type 0 where
   pub job : Job
@@ -44,7 +45,7 @@ box x y z w h d = section x y z (sides w h d)
 -- a reply and its detail, and nothing else
 abbrev says : ℕ → ℕ → Outcome
 says reply detail =
-    record { reply = reply; detail = detail; split = 0; volumes = []; appended = []; placements = []; free = [] }
+    record { reply = reply; detail = detail; split = 0; volumes = []; appended = []; placements = []; free = []; shown = [] }
 
 -- the record of a chamber, of a rectangle and of a placement
 abbrev chamber : ℕ → ℕ → ℕ → ℕ → ℕ → List ℕ
@@ -69,7 +70,7 @@ abbrev pack : List ℕ → List (List BinSection) → List ℕ → ℕ → ℕ �
 pack chambers free coils reply detail places after =
     record {
       job = packs chambers (storeOf free) coils (replicate (length coils) 9);
-      outcome = record { reply = reply; detail = detail; split = 0; volumes = []; appended = []; placements = places; free = after };
+      outcome = record { reply = reply; detail = detail; split = 0; volumes = []; appended = []; placements = places; free = after; shown = [] };
     }
 
 -- a pack of which the reply and the detail are said
@@ -85,11 +86,20 @@ coils (suc n) = coils n ++ coil (suc n) 0 1 1 1
 -- a try that is placed, and one that is refused
 abbrev placed : BinSection → ℕ → ℕ → ℕ → ℕ → List ℕ → List BinSection → Example
 placed s w h d split volumes appended =
-    record { job = tries s (rectangle w h d); outcome = record { reply = 0; detail = 0; split = split; volumes = volumes; appended = appended; placements = []; free = [] } }
+    record { job = tries s (rectangle w h d); outcome = record { reply = 0; detail = 0; split = split; volumes = volumes; appended = appended; placements = []; free = []; shown = [] } }
 
 abbrev refused : BinSection → ℕ → ℕ → ℕ → ℕ → Example
 refused s w h d reply =
     record { job = tries s (rectangle w h d); outcome = says reply 0 }
+
+-- an audit: the sides, the placed and the free boxes, the reply, its detail, the box shown
+abbrev audit : ℕ → ℕ → ℕ → List BinSection → List BinSection → ℕ → ℕ → List BinSection → Example
+audit w h d placed free reply detail shown =
+    record {
+      job = audits (sides w h d) (allWords placed) (allWords free);
+      outcome =
+          record { reply = reply; detail = detail; split = 0; volumes = []; appended = []; placements = []; free = []; shown = allWords shown };
+    }
 
 unfoldable pub table : List Example
 table =
@@ -115,6 +125,15 @@ table =
     ∷ return (chamber 1 10 10 1 1) ((box 0 0 0 10 10 1 ∷ []) ∷ []) 1 (box 2 2 0 3 3 1) 10 0
     -- P9: "10x10x1 with no free section, return (8,0,0;5,1,1): 9"
     ∷ return (chamber 1 10 10 1 0) ([] ∷ []) 1 (box 8 0 0 5 1 1) 9 0
+    -- P10: "2x2x1 with (0,0,0;2,1,1) and (0,0,0;1,2,1): 17, detail 1, though the volumes sum to 4."
+    ∷ audit 2 2 1 (box 0 0 0 2 1 1 ∷ box 0 0 0 1 2 1 ∷ []) [] 17 1 (box 0 0 0 1 2 1 ∷ [])
+    ∷ audit 2 2 1 (box 0 0 0 2 1 1 ∷ []) (box 0 0 0 1 2 1 ∷ []) 17 1 (box 0 0 0 1 2 1 ∷ [])
+    -- P11: "2x2x1, no boxes: 18."
+    ∷ audit 2 2 1 [] [] 18 0 []
+    -- the whole example of the audit program; a free box that reaches past the chamber, and a placed one with a zero side before it
+    ∷ audit 2 2 1 (box 0 0 0 1 2 1 ∷ []) (box 1 0 0 1 2 1 ∷ []) 0 0 []
+    ∷ audit 2 2 1 (box 0 0 0 1 2 1 ∷ []) (box 1 0 0 2 2 1 ∷ []) 16 1 (box 1 0 0 2 2 1 ∷ [])
+    ∷ audit 2 2 1 (box 0 0 0 0 2 1 ∷ []) (box 1 0 0 2 2 1 ∷ []) 16 0 (box 0 0 0 0 2 1 ∷ [])
     -- P12: "no chambers: no rectangles gives 0, one gives 7."
     ∷ pack [] [] [] 0 0 [] []
     ∷ pack [] [] (coil 1 0 1 1 1) 7 0 waits []
@@ -139,6 +158,7 @@ unfolding lowest anyBelow picked sumTo tab removeAt put
     chamberOf pushChecks returnChecks returned returnOf
     rectAt badRect repeatedId sameGroup leadOf isLead share groupVolume keyWith comesBefore earlier groupOrder groupsOf
     placeFrom placeOne placeAll placeGroup order.goesBefore order.tried order.trialOrder seated
-    rectsAt trialIn firstWhole changed packGroups rectLengthsOk noRoom packChecks start packing binsWith written packOf
-    coils packed table answered tried tryOf fitOf spanOk sideOk sixSplits chosen ranksOf bestOf bestFrom laterOf betterOf appendedOf larger keptOne kept insertBy insertAll
+    rectsAt trialIn firstWhole changed packGroups rectLengthsOk noRoom rectChecks packChecks start packing binsWith written packOf
+    volumes auditing.boxesOf auditing.auditBoxes auditing.lengthsOk auditing.sharesEarlier auditing.auditReply auditing.shownOf auditing.auditOf
+    audited coils packed table answered tried tryOf fitOf spanOk sideOk sixSplits chosen ranksOf bestOf bestFrom laterOf betterOf appendedOf larger keptOne kept insertBy insertAll
 examples-hold = refl

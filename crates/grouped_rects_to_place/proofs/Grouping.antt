@@ -1,15 +1,15 @@
 -- Laws that the code of the groups stands on: one turn of each loop.
-use Prim.Native.Nat.{ℕ, zero, suc, _+_, _≤_, _<_}
+use Prim.Native.Nat.{ℕ, _+_, _≤_, _<_}
 use mathlib.Core.Path.{_≡_, refl, sym, ap, ap₂, _∙_, subst}
 use mathlib.Core.Logic.{_⊎_, inl, inr}
 use mathlib.Core.List.{List, [], _∷_, _++_}
-use mathlib.Core.Bool.{Bool, true, false, cond}
+use mathlib.Core.Bool.{Bool, true, false}
 use native.Mathlib.Nat.{eq-or-lt-of-le, le-of-suc-le-suc}
 use native.Mathlib.Numerals.{add-one}
 use native.Mathlib.Omega.{arith}
 use borrow.Author.Tests.{eq-eqb, ne-eqb}
 use lib.ListN.{length, getD, take, set, length-append}
-use lib.Seq.{take-all, take-suc-set, getD-take, getD-set-same, getD-set-other}
+use lib.Seq.{take-suc-set, getD-take, getD-set-same, getD-set-other}
 use Rattle.lists.specs.Pick.{picked}
 use Rattle.lists.specs.Sort.{insertBy, sortBy, Each}
 use Rattle.lists.proofs.Flags.{true-false, cond-yes, cond-no}
@@ -33,7 +33,14 @@ use Rattle.grouped_rects_to_place.specs.Sorting.{earlierBy, SortedTo}
 -- ---- an array that holds a list at its front
 
 -- what holds of each element holds of each entry
-pub each-entry : (P : ℕ → Type 0) (out list : List ℕ) (count : ℕ) → take count out ≡ list → count ≡ length list → Each P list → (k : ℕ) → k < count → P (getD out k 0)
+pub each-entry :
+    (P : ℕ → Type 0) (out list : List ℕ) (count : ℕ)
+    → take count out ≡ list
+    → count ≡ length list
+    → Each P list
+    → (k : ℕ)
+    → k < count
+    → P (getD out k 0)
 each-entry P out list count e l ps k h =
     subst P (ap (λ (xs : List ℕ). getD xs k 0) (sym e) ∙ getD-take count out k 0 h) (each-at ps k 0 (omega arith))
 

@@ -1,3 +1,5 @@
+pub mod Checking
 pub mod Grouping
 pub mod Ordering
-pub mod Passed
+pub mod Parting
+pub mod Sizes

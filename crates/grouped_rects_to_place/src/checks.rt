@@ -1,6 +1,6 @@
 // Checks 4 and 5: "rectangle side 0 or above 65,535", "a rectangle id stands at an earlier index too".
 ghost use mathlib.Core.Path.{_≡_};
-ghost use Prim.Native.Nat.{_<_, _≤_};
+ghost use Prim.Native.Nat.{_≤_};
 ghost use Rattle.lists.specs.Lowest.{lowest};
 ghost use Rattle.grouped_rects_to_place.specs.Rect.{HasRect, HasRects, rectAt};
 ghost use Rattle.grouped_rects_to_place.specs.Checks.{badRect, repeatedId};

@@ -1,6 +1,6 @@
 // Groups: who belongs together, the first of a group, its members and the sum of their volumes.
 ghost use mathlib.Core.Path.{_≡_};
-ghost use Prim.Native.Nat.{_<_, _≤_, _*_};
+ghost use Prim.Native.Nat.{_<_, _≤_};
 ghost use lib.ListN.{length};
 ghost use Rattle.grouped_rects_to_place.specs.Rect.{HasRect, HasRects, GoodRects, rectAt};
 ghost use Rattle.grouped_rects_to_place.specs.Groups.{sameGroup, leadOf, share, groupVolume, members, Listed, Pushed};

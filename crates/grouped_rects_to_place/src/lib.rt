@@ -8,4 +8,5 @@ pub use checks::first_bad_rect;
 pub use checks::first_repeated;
 pub use groups::members_of;
 pub use rect_to_place::RectToPlace;
+pub use sorting::put_in;
 pub use sorting::sort_groups;

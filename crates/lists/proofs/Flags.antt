@@ -1,5 +1,5 @@
 -- Laws of tests that are joined: and, or, not, and what a chosen case is.
-use mathlib.Core.Path.{_≡_, refl, sym, ap, _∙_, subst}
+use mathlib.Core.Path.{_≡_, refl, sym}
 use mathlib.Core.Bool.{Bool, true, false, not, _&&_, _||_, cond}
 use Prim.Native.Nat.{ℕ}
 use native.Mathlib.Omega.{arith}
@@ -38,6 +38,14 @@ or-first false b p = refl
 pub or-second : (a b : Bool) → (a || b) ≡ false → b ≡ false
 or-second true b p = absurd (true-false p)
 or-second false b p = p
+
+pub or-false : (a : Bool) → (a || false) ≡ a
+or-false true = refl
+or-false false = refl
+
+pub or-assoc : (a b c : Bool) → ((a || b) || c) ≡ (a || (b || c))
+or-assoc true b c = refl
+or-assoc false b c = refl
 
 pub not-yes : (a : Bool) → a ≡ true → not a ≡ false
 not-yes true p = refl

@@ -1,14 +1,16 @@
 -- Laws of `lowest` and `anyBelow`: the start, a turn and the end of a loop that counts up, and what they mean.
-use mathlib.Core.Path.{_≡_, refl, sym, ap, _∙_}
+use mathlib.Core.Path.{_≡_, refl, sym, ap, ap₂, _∙_}
 use mathlib.Core.Logic.{_⊎_, inl, inr}
 use mathlib.Core.Bool.{Bool, true, false, _||_, cond}
 use Prim.Native.Nat.{ℕ, zero, suc, _+_, _≤_, _<_}
-use native.Mathlib.Nat.{eq-or-lt-of-le, le-of-suc-le-suc, not-suc-le-zero, le-step, lt-suc-self}
+use native.Mathlib.Nat.{eq-or-lt-of-le, le-of-suc-le-suc, not-suc-le-zero, le-step, lt-suc-self, add-zero, add-suc}
 use native.Mathlib.Decide.{decLt}
 use native.Mathlib.Numerals.{add-one}
 use native.Mathlib.Omega.{arith}
+use borrow.Author.Tests.{lt-ltb, le-ltb}
+use lib.Dec.{ltb}
 use Rattle.lists.specs.Lowest.{lowest, anyBelow}
-use Rattle.lists.proofs.Flags.{true-false, cond-yes, cond-no, or-none, or-first, or-second}
+use Rattle.lists.proofs.Flags.{true-false, cond-yes, cond-no, or-none, or-first, or-second, or-false, or-assoc}
 
 -- the test fires at no number below n
 pub record None (n : ℕ) (f : ℕ → Bool) : Type 0 where
@@ -129,3 +131,24 @@ any-here n i f h e = go (anyBelow n f) refl
     go : (b : Bool) → anyBelow n f ≡ b → b ≡ true
     go true p = refl
     go false p = absurd (true-false (sym e ∙ any-none n f p .at i h))
+
+-- two tests that agree below n
+pub any-same : (n : ℕ) (f g : ℕ → Bool) → ((i : ℕ) → i < n → f i ≡ g i) → anyBelow n f ≡ anyBelow n g
+unfolding anyBelow
+any-same zero f g e = refl
+any-same (suc n) f g e = ap₂ _||_ (any-same n f g (λ i h. e i (le-step h))) (e n (lt-suc-self n))
+
+-- a range in two parts
+pub any-parts : (m n : ℕ) (f : ℕ → Bool) → anyBelow (m + n) f ≡ (anyBelow m f || anyBelow n (λ i. f (m + i)))
+unfolding anyBelow
+any-parts m zero f = rw add-zero (sym (or-false (anyBelow m f)))
+any-parts m (suc n) f = rw add-suc (ap (λ (b : Bool). b || f (m + n)) (any-parts m n f) ∙ or-assoc (anyBelow m f) (anyBelow n (λ i. f (m + i))) (f (m + n)))
+
+-- whether one fires is whether the lowest that fires is below n
+pub any-lowest : (n : ℕ) (f : ℕ → Bool) → anyBelow n f ≡ ltb (lowest n f) n
+any-lowest n f = go (decLt (lowest n f) n) (anyBelow n f) refl
+  where
+    go : Dec (lowest n f < n) → (b : Bool) → anyBelow n f ≡ b → anyBelow n f ≡ ltb (lowest n f) n
+    go (yes l) true e = e ∙ sym (lt-ltb _ _ l)
+    go (yes l) false e = absurd (true-false (sym (lowest-fires n f l) ∙ any-none n f e .at (lowest n f) l))
+    go (no m) b e = let h : n ≤ lowest n f = omega arith in none-any n f (none-of-lowest n f h) ∙ sym (le-ltb (lowest n f) n h)

@@ -1,15 +1,16 @@
 -- Laws of `picked`: a turn of a loop that counts up, and what is picked.
 use Prim.Native.Nat.{ℕ, zero, suc, _+_, _≤_, _<_}
 use mathlib.Core.Path.{_≡_, refl, sym, ap, _∙_}
-use mathlib.Core.List.{List, [], _∷_, _++_}
+use mathlib.Core.Logic.{_⊎_, inl, inr}
+use mathlib.Core.List.{List, [], _∷_, _++_, List·Memᴰ, List·Memᴰ·head, Memᴰ·append-left, Memᴰ·append-right}
 use mathlib.Core.Bool.{Bool, true, false, cond}
-use native.Mathlib.Nat.{le-step, lt-suc-self}
+use native.Mathlib.Nat.{le-step, lt-suc-self, not-suc-le-zero, eq-or-lt-of-le, le-of-suc-le-suc}
 use native.Mathlib.Numerals.{add-one}
 use native.Mathlib.Omega.{arith}
 use lib.ListN.{length, length-append}
 use Rattle.lists.specs.Pick.{picked}
 use Rattle.lists.specs.Sort.{Each, none, also, EachTwo, no-two, also-two}
-use Rattle.lists.proofs.Flags.{cond-yes, cond-no}
+use Rattle.lists.proofs.Flags.{true-false, cond-yes, cond-no}
 use Rattle.lists.proofs.Sorts.{each-map, each-append}
 
 module _ (n : ℕ) (f : ℕ → Bool) where
@@ -64,3 +65,20 @@ pick-rising (suc n) f = go (f n) (pick-rising n f)
     go : (t : Bool) → EachTwo (λ i j. i < j) (picked n f) → EachTwo (λ i j. i < j) (cond t (picked n f ++ (n ∷ [])) (picked n f))
     go true ps = each-two-last n (each-map (λ i p. p .0) (pick-each n f)) ps
     go false ps = ps
+
+-- and each that fires is there
+pub pick-in : (n : ℕ) (f : ℕ → Bool) (i : ℕ) → i < n → f i ≡ true → List·Memᴰ i (picked n f)
+unfolding picked
+pick-in zero f i h e = absurd (not-suc-le-zero h)
+pick-in (suc n) f i h e = go (pick-in n f i) (f n) refl (eq-or-lt-of-le (le-of-suc-le-suc h))
+  where
+    go :
+        (i < n → f i ≡ true → List·Memᴰ i (picked n f))
+        → (t : Bool)
+        → f n ≡ t
+        → (i ≡ n) ⊎ (i < n)
+        → List·Memᴰ i (cond t (picked n f ++ (n ∷ [])) (picked n f))
+    go rest true p (inl q) = Memᴰ·append-right (picked n f) (List·Memᴰ·head q)
+    go rest true p (inr l) = Memᴰ·append-left (n ∷ []) (rest l e)
+    go rest false p (inl q) = absurd (true-false (sym e ∙ ap f q ∙ p))
+    go rest false p (inr l) = rest l e

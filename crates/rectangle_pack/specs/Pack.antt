@@ -1,6 +1,6 @@
 -- Pack: its checks in their order, and what it leaves in every lent table.
 use Prim.Native.Nat.{ℕ, _+_, _*_, _/_, _%_}
-use mathlib.Core.List.{List, [], _∷_}
+use mathlib.Core.List.{List, [], _∷_, _++_}
 use mathlib.Core.Bool.{Bool, _&&_, not}
 use lib.Dec.{ltb, leb, eqb}
 use lib.ListN.{length, getD, replicate}
@@ -11,7 +11,7 @@ use Rattle.bin_section.specs.Replies.{Check, once, each, inOrder}
 use Rattle.target_bin.specs.declared.chamber.TargetBin.{TargetBin}
 use Rattle.target_bin.specs.Chambers.{bin, chamberAt, chamberCount, tableOf}
 use Rattle.target_bin.specs.Store.{freeOf, storeOf}
-use Rattle.target_bin.specs.Checks.{lengthsOk, check2, check3}
+use Rattle.target_bin.specs.Checks.{tableChecks}
 use Rattle.grouped_rects_to_place.specs.Rect.{rectAt}
 use Rattle.grouped_rects_to_place.specs.Checks.{badRect, repeatedId}
 use Rattle.grouped_rects_to_place.specs.Groups.{groupsOf}
@@ -32,16 +32,17 @@ rectLengthsOk rects placements =
 unfoldable pub noRoom : List ℕ → ℕ → ℕ → Bool
 noRoom chambers n k = ltb 128 (chamberAt chambers k .count + 2 * n)
 
--- "Pack: 1 to 7." The seventh is the packing itself.
-unfoldable pub packChecks : List ℕ → List ℕ → List ℕ → List ℕ → List Check
-packChecks chambers store rects placements =
-    once 1 (not (lengthsOk chambers store && rectLengthsOk rects placements))
-    ∷ check2 chambers
-    ∷ check3 chambers store
-    ∷ each 4 (rectCount rects) (badRect (rectAt rects))
+-- "Pack: 1 to 7." The seventh is the packing itself. Check 1 has two halves, the rectangles' tables and the chambers'.
+unfoldable pub rectChecks : List ℕ → List ℕ → List Check
+rectChecks chambers rects =
+    each 4 (rectCount rects) (badRect (rectAt rects))
     ∷ each 5 (rectCount rects) (repeatedId (rectAt rects))
     ∷ each 6 (chamberCount chambers) (noRoom chambers (rectCount rects))
     ∷ []
+
+unfoldable pub packChecks : List ℕ → List ℕ → List ℕ → List ℕ → List Check
+packChecks chambers store rects placements =
+    once 1 (not (rectLengthsOk rects placements)) ∷ (tableChecks chambers store ++ rectChecks chambers rects)
 
 -- the free sections as they are lent, and every rectangle unplaced
 unfoldable pub start : List ℕ → List ℕ → List ℕ → State

@@ -1,1 +1,9 @@
 // Pack: groups of rectangles into chambers.
+mod checks;
+mod groups;
+mod order;
+mod packing;
+mod placements;
+mod trial;
+
+pub use packing::pack;

@@ -7,7 +7,6 @@ use Rattle.bin_section.specs.Section.{sectionAt, wordsOf}
 
 -- the first n sections, "first one first"
 unfoldable pub sections : List ℕ → ℕ → List BinSection
-unfolding tab
 sections w n = tab n (sectionAt w)
 
 -- the words of each record, one record after the other

@@ -4,9 +4,9 @@ ghost use Prim.Native.Nat.{_*_, _≤_};
 ghost use lib.ListN.{length};
 ghost use Rattle.lists.specs.Lowest.{lowest};
 ghost use Rattle.sections.specs.Inside.{outsideAt, sharesAt};
-use crate::bounds::inside;
 use bin_section::BinSection;
 use bin_section::WidthHeightDepth;
+use bin_section::inside;
 
 // The first of the n sections that has a zero side or reaches past the chamber; n where none does.
 pub fn first_outside(words: &[u32], n: usize, whd: WidthHeightDepth) -> usize

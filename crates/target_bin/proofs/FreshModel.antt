@@ -7,7 +7,7 @@ use lib.ListN.{length, getD, length-map, List·getD-map}
 use Rattle.bin_section.specs.declared.section.BinSection.{BinSection}
 use Rattle.bin_section.specs.Section.{wholeSection, zeroSection, sectionAt}
 use Rattle.bin_section.specs.Sides.{sides}
-use Rattle.sections.proofs.Bounding.{Inside}
+use Rattle.bin_section.specs.Inside.{Inside}
 use Rattle.sections.proofs.Chunks.{length-joined-tab}
 use Rattle.sections.proofs.Reading.{getD-sections}
 use Rattle.target_bin.specs.declared.chamber.TargetBin.{TargetBin}
@@ -61,9 +61,12 @@ module _ (chambers : List ℕ) where
 fresh-inside : (b : TargetBin) → SidesInRange (b .whd) → Inside (b .whd) (wholeSection (b .whd))
 fresh-inside b h =
     record {
-      alongX = record { some = h .width-ok .some; end = omega arith };
-      alongY = record { some = h .height-ok .some; end = omega arith };
-      alongZ = record { some = h .depth-ok .some; end = omega arith };
+      wide = h .width-ok .some;
+      tall = h .height-ok .some;
+      deep = h .depth-ok .some;
+      right = omega arith;
+      above = omega arith;
+      behind = omega arith;
     }
 
 module _ (chambers store : List ℕ) (lengths-ok : Lengths chambers store) (shapes-ok : ShapesSound chambers) where

@@ -1,42 +1,43 @@
 -- What a return leaves, as lists: one count more and the box among the free sections; and where it is accepted.
 use Prim.Native.Nat.{ℕ, suc, _+_, _*_, _-_, _/_, _≤_, _<_}
 use mathlib.Core.Path.{_≡_, refl, sym, ap, ap₂, _∙_}
+use mathlib.Core.Logic.{_↔_}
 use mathlib.Core.List.{List, [], _∷_, _++_}
-use mathlib.Core.Bool.{not}
+use mathlib.Core.Bool.{not, true, false, Bool}
 use native.Mathlib.Decide.{ℕ-discrete}
 use native.Mathlib.Omega.{arith}
-use borrow.Author.Tests.{eqb-true, eqb-false, ltb-true, not-false}
+use borrow.Author.Tests.{eqb-true, eqb-false, ltb-true, not-false, lt-ltb, le-ltb, ne-eqb}
 use lib.ListN.{length, set, length-set}
 use lib.Dec.{eqb}
 use Rattle.lists.specs.Lowest.{lowest, anyBelow}
 use Rattle.lists.specs.Tab.{put}
 use Rattle.lists.proofs.Tabs.{length-put}
 use Rattle.lists.proofs.Flags.{true-false}
-use Rattle.lists.proofs.Lowests.{lowest-fires}
+use Rattle.lists.proofs.Lowests.{lowest-fires, lowest-none}
 use Rattle.bin_section.specs.declared.section.BinSection.{BinSection}
 use Rattle.bin_section.specs.declared.reply.Reply.{Reply}
 use Rattle.bin_section.specs.Section.{sectionAt, wordsOf}
 use Rattle.bin_section.specs.Sides.{sides}
 use Rattle.bin_section.specs.Cell.{SharesCell}
-use Rattle.bin_section.proofs.Sharing.{shares→overlaps}
+use Rattle.bin_section.proofs.Sharing.{shares→overlaps, overlaps→shares}
 use Rattle.bin_section.specs.Replies.{Check, reply, once, each, inOrder}
 use Rattle.sections.specs.Sections.{sections}
 use Rattle.sections.specs.Inside.{insideOf, sharesAt}
-use Rattle.sections.proofs.Bounding.{Inside, inside→, any-lowest}
+use Rattle.sections.proofs.Bounding.{Inside, inside→, any-lowest, →inside}
 use Rattle.sections.proofs.Moves.{appended}
 use Rattle.sections.proofs.Reading.{sectionAt-put-same, sectionAt-put-other}
 use Rattle.target_bin.specs.declared.chamber.TargetBin.{TargetBin}
-use Rattle.target_bin.specs.Chambers.{bin, chamberAt, chamberCount, chambersOf}
+use Rattle.target_bin.specs.Chambers.{bin, chamberAt, chamberCount, chambersOf, hasId, chamberOf}
 use Rattle.target_bin.specs.Store.{partAt, freeAt, freeOf}
 use Rattle.target_bin.specs.Lending.{OnlyIn}
-use Rattle.target_bin.specs.Checks.{hasId, badChamber, badSections, check1, check2, check3}
+use Rattle.target_bin.specs.Checks.{badChamber, badSections, check1, check2, check3, tableChecks}
 use Rattle.target_bin.specs.Outcome.{Outcome, outcome, refused}
-use Rattle.target_bin.specs.Return.{chamberOf, pushChecks, returnChecks, stored, returned, returnOf}
-use Rattle.target_bin.proofs.Ordering.{Numbered, none, more, answerOf, AllPass, and, no-more, all-pass, in-map, alone-passes, alone-fires}
+use Rattle.target_bin.specs.Return.{pushChecks, returnChecks, stored, returned, returnOf}
+use Rattle.target_bin.proofs.Ordering.{Numbered, none, more, answerOf, AllPass, and, no-more, all-pass, in-map, alone-passes, alone-fires, passes, all-done, row-passes}
 use Rattle.target_bin.proofs.Tables.{chamberAt-set-same, chamberAt-set-other, chambers-set}
 use Rattle.target_bin.proofs.Parts.{length-partAt, partAt-put-same, only-in, free-set}
-use Rattle.target_bin.proofs.Passing.{Sound, no-fault, sound}
-use Rattle.target_bin.proofs.Returning.{put-in-part}
+use Rattle.target_bin.proofs.Passing.{Sound, no-fault, sound, numbered, tables-sound}
+use Rattle.target_bin.proofs.Putting.{put-in-part}
 
 -- ---- an accepted return
 
@@ -168,7 +169,6 @@ module _ (chambers store : List ℕ) (id : ℕ) (box : BinSection) where
     pub box-in : Inside (chamberAt chambers (chamberOf chambers id) .whd) box
     pub apart : (j : ℕ) → j < chamberAt chambers (chamberOf chambers id) .count → SharesCell (sectionAt (partAt store (chamberOf chambers id)) j) box → ⊥
     pub room : chamberAt chambers (chamberOf chambers id) .count < 128
-    pub result : returnOf chambers store id box ≡ stored chambers store (chamberOf chambers id) (chamberAt chambers (chamberOf chambers id) .count) box
 
   c8 : Check
   c8 = once 8 (not (anyBelow (chamberCount chambers) (hasId chambers id)))
@@ -200,9 +200,9 @@ module _ (chambers store : List ℕ) (id : ℕ) (box : BinSection) where
   row-answer : returnOf chambers store id box .reply ≡ answerOf row (reply 0 (there .count))
   row-answer = ap (λ (o : Outcome). o .reply) row-of ∙ in-map (λ o. o .reply) (refused chambers store) (stored chambers store here (there .count) box) row
 
-  from-row : AllPass row → returnOf chambers store id box ≡ stored chambers store here (there .count) box → Accepted
+  from-row : AllPass row → Accepted
   unfolding row c8 c9 c10 c11 chamberOf
-  from-row (and p1 (and p2 (and p3 (and p8 (and p9 (and p10 (and p11 no-more))))))) out =
+  from-row (and p1 (and p2 (and p3 (and p8 (and p9 (and p10 (and p11 no-more))))))) =
       let s : Sound chambers store =
       sound chambers store (not-false _ p1) (no-fault (chamberCount chambers) (badChamber chambers) p2) (no-fault (chamberCount chambers) (badSections chambers store) p3) in
       let k : lowest (chamberCount chambers) (hasId chambers id) < chamberCount chambers =
@@ -217,15 +217,42 @@ module _ (chambers store : List ℕ) (id : ℕ) (box : BinSection) where
             true-false
             (sym (shares→overlaps (sectionAt (partAt store here) j) box h) ∙ no-fault (there .count) (sharesAt box (partAt store here)) p10 .at j l);
         room = omega (arith, full, s .shaped .counted .counts here k);
-        result = out;
       }
 
-  -- reply 0 is given in no other case
+  known-fires : chamberOf chambers id < chamberCount chambers → anyBelow (chamberCount chambers) (hasId chambers id) ≡ true
+  unfolding chamberOf
+  known-fires h = any-lowest (chamberCount chambers) (hasId chambers id) ∙ lt-ltb _ _ h
+
+  apart-passes : (j : ℕ) → (SharesCell (sectionAt (partAt store here) j) box → ⊥) → sharesAt box (partAt store here) j ≡ false
+  apart-passes j h = go (sharesAt box (partAt store here) j) refl
+    where
+      go : (b : Bool) → sharesAt box (partAt store here) j ≡ b → sharesAt box (partAt store here) j ≡ false
+      go true e = absurd (h (overlaps→shares (sectionAt (partAt store here) j) box e))
+      go false e = e
+
+  -- what an accepted return leaves
+  pub return-result : Accepted → returnOf chambers store id box ≡ stored chambers store (chamberOf chambers id) (chamberAt chambers (chamberOf chambers id) .count) box
+  unfolding returnOf returned returnChecks pushChecks c8 c9 c10 c11
+  return-result a =
+      let f = refused chambers store in
+      let d = stored chambers store here (there .count) box in
+      let none-shares : lowest (there .count) (sharesAt box (partAt store here)) ≡ there .count =
+      lowest-none (there .count) (sharesAt box (partAt store here)) (record { at = λ j l. apart-passes j (a .apart j l) }) in
+      row-passes f d (reply 0 0) (tableChecks chambers store) (c8 ∷ c9 ∷ c10 ∷ c11 ∷ []) (numbered chambers store)
+      (ap (λ (r : Reply). r .number) (tables-sound chambers store (a .sound-before)))
+      ∙ passes f d c8 (c9 ∷ c10 ∷ c11 ∷ []) (ap not (known-fires (a .known)))
+      ∙ passes f d c9 (c10 ∷ c11 ∷ []) (ap not (→inside (there .whd) box (a .box-in)))
+      ∙ passes f d c10 (c11 ∷ []) (le-ltb (lowest (there .count) (sharesAt box (partAt store here))) (there .count) (omega arith))
+      ∙ passes f d c11 [] (ne-eqb (there .count) 128 (λ e. omega (arith, a .room)))
+      ∙ all-done f d
+
+  -- reply 0 is given exactly there
   pub return-done : returnOf chambers store id box .reply .number ≡ 0 → Accepted
   return-done z =
-      let z′ : answerOf row (reply 0 (there .count)) .number ≡ 0 = sym (ap (λ (r : Reply). r .number) row-answer) ∙ z in
-      from-row (all-pass row (reply 0 (there .count)) row-numbered z′)
-      (row-of ∙ alone-passes (refused chambers store) (stored chambers store here (there .count) box) (reply 0 (there .count)) row row-numbered z′)
+      from-row (all-pass row (reply 0 (there .count)) row-numbered (sym (ap (λ (r : Reply). r .number) row-answer) ∙ z))
+
+  pub return-exact : (returnOf chambers store id box .reply .number ≡ 0) ↔ Accepted
+  return-exact = (return-done, λ a. ap (λ (o : Outcome). o .reply .number) (return-result a))
 
   -- any other reply leaves both tables as they were
   pub return-refusal : (returnOf chambers store id box .reply .number ≡ 0 → ⊥) → returnOf chambers store id box ≡ outcome (returnOf chambers store id box .reply) chambers store
@@ -237,10 +264,10 @@ module _ (chambers store : List ℕ) (id : ℕ) (box : BinSection) where
 
   -- after an accepted return: the chambers, their free sections, and that the tables are sound
   pub return-chambers : Accepted → chambersOf (returnOf chambers store id box .chambers) ≡ set (chambersOf chambers) (chamberOf chambers id) (bin (chamberAt chambers (chamberOf chambers id) .id) (chamberAt chambers (chamberOf chambers id) .whd) (chamberAt chambers (chamberOf chambers id) .count + 1))
-  return-chambers a = ap (λ (o : Outcome). chambersOf (o .chambers)) (a .result) ∙ stored-chambers chambers store here box (a .sound-before) (a .known) (a .room)
+  return-chambers a = ap (λ (o : Outcome). chambersOf (o .chambers)) (return-result a) ∙ stored-chambers chambers store here box (a .sound-before) (a .known) (a .room)
 
   pub return-free : Accepted → freeOf (returnOf chambers store id box .chambers) (returnOf chambers store id box .store) ≡ set (freeOf chambers store) (chamberOf chambers id) (freeAt chambers store (chamberOf chambers id) ++ (box ∷ []))
-  return-free a = ap (λ (o : Outcome). freeOf (o .chambers) (o .store)) (a .result) ∙ stored-free chambers store here box (a .sound-before) (a .known) (a .room)
+  return-free a = ap (λ (o : Outcome). freeOf (o .chambers) (o .store)) (return-result a) ∙ stored-free chambers store here box (a .sound-before) (a .known) (a .room)
 
   pub return-sound : Accepted → Sound (returnOf chambers store id box .chambers) (returnOf chambers store id box .store)
-  return-sound a = rw (a .result) (stored-sound chambers store here box (a .sound-before) (a .known) (a .room) (a .box-in))
+  return-sound a = rw (return-result a) (stored-sound chambers store here box (a .sound-before) (a .known) (a .room) (a .box-in))

@@ -4,31 +4,29 @@ use mathlib.Core.Path.{_≡_, refl, sym, ap, ap₂, _∙_}
 use mathlib.Core.List.{List, [], _∷_}
 use mathlib.Core.Bool.{true, false, not}
 use native.Mathlib.Omega.{arith}
-use native.Mathlib.Decide.{decLt}
 use borrow.Rule.Slice.PartMut.{putMid}
 use borrow.Author.Tests.{eqb-false, eq-eqb, ne-eqb}
-use lib.ListN.{length, getD, take, drop, set, length-take, length-drop}
-use lib.Seq.{ext-getD, getD-take, getD-drop}
+use lib.ListN.{length, take, drop, set}
 use lib.Dec.{eqb}
 use Rattle.lists.specs.Lowest.{lowest, anyBelow}
 use Rattle.lists.specs.Tab.{put}
-use Rattle.lists.proofs.Tabs.{length-put, getD-put-in, getD-put-before, getD-put-after}
 use Rattle.bin_section.specs.declared.section.BinSection.{BinSection}
 use Rattle.bin_section.specs.declared.reply.Reply.{Reply}
 use Rattle.bin_section.specs.Section.{wordsOf}
 use Rattle.bin_section.specs.Replies.{Check, reply, once, each, inOrder}
 use Rattle.sections.specs.Inside.{insideOf, sharesAt}
 use Rattle.target_bin.specs.declared.chamber.TargetBin.{TargetBin}
-use Rattle.target_bin.specs.Return.{chamberOf, pushChecks, returnChecks, stored, returned, returnOf}
+use Rattle.target_bin.specs.Return.{pushChecks, returnChecks, stored, returned, returnOf}
 use Rattle.sections.proofs.Bounding.{any-lowest}
-use Rattle.target_bin.specs.Chambers.{chamberAt, chamberCount}
+use Rattle.target_bin.specs.Chambers.{chamberAt, chamberCount, hasId, chamberOf}
 use Rattle.target_bin.specs.Store.{partAt}
-use Rattle.target_bin.specs.Checks.{hasId, tableChecks}
+use Rattle.target_bin.specs.Checks.{tableChecks}
 use Rattle.target_bin.specs.Outcome.{Outcome, outcome, refused}
 use Rattle.target_bin.proofs.Ordering.{fires, passes, all-done, Numbered, none, more, answerOf, first-passes, rest-passes, row-passes, row-fires, alone-passes, alone-fires}
 use Rattle.target_bin.proofs.Parts.{lent-part, came-back, length-partAt}
 use Rattle.target_bin.proofs.Checking.{found-fires, found-passes}
 use Rattle.target_bin.proofs.Passing.{numbered}
+use Rattle.target_bin.proofs.Putting.{put-back, put-in-part}
 
 -- ---- checks 9, 10 and 11
 
@@ -71,77 +69,6 @@ unfolding pushChecks
 push-numbered b part box =
     more (λ (e : _≡_ {A = ℕ} 9 0). omega arith) (more (λ (e : _≡_ {A = ℕ} 10 0). omega arith) (more (λ (e : _≡_ {A = ℕ} 11 0). omega arith) none))
 
--- ---- words put into a part of a list are words put into the list
-
-module _ (w : List ℕ) (a m : ℕ) (room : a + m ≤ length w) where
-  abbrev P : List ℕ
-  P = take m (drop a w)
-
-  long-P : length P ≡ m
-  long-P = simp (length-take, length-drop) (omega arith)
-
-  at-P : (j : ℕ) → j < m → getD P j 0 ≡ getD w (a + j) 0
-  at-P j h = getD-take m (drop a w) j 0 h ∙ getD-drop a w j 0
-
-  -- the part put back as it was
-  pub put-back : put w a (take m (drop a w)) ≡ w
-  put-back = ext-getD 0 (put w a P) w (length-put w a P (omega (arith, long-P))) (λ k h. go k (decLt k a) (decLt k (a + m)))
-    where
-      go : (k : ℕ) → Dec (k < a) → Dec (k < a + m) → getD (put w a P) k 0 ≡ getD w k 0
-      go k (yes l) g = getD-put-before w a P (omega (arith, long-P)) k l
-      go k (no l) (yes g) =
-          let e : a + (k - a) ≡ k = omega arith in
-          ap (λ (i : ℕ). getD (put w a P) i 0) (sym e)
-          ∙ getD-put-in w a P (omega (arith, long-P)) (k - a) (omega (arith, long-P))
-          ∙ at-P (k - a) (omega arith)
-          ∙ ap (λ (i : ℕ). getD w i 0) e
-      go k (no l) (no g) = getD-put-after w a P (omega (arith, long-P)) k (omega (arith, long-P))
-
-  module _ (b : ℕ) (vs : List ℕ) (fits : b + length vs ≤ m) where
-    abbrev Q : List ℕ
-    Q = put P b vs
-
-    long-Q : length Q ≡ m
-    long-Q = length-put P b vs (omega (arith, long-P)) ∙ long-P
-
-    into : (k : ℕ) → a ≤ k → k < a + m → getD (put w a Q) k 0 ≡ getD Q (k - a) 0
-    into k l g =
-        let e : a + (k - a) ≡ k = omega arith in
-        ap (λ (i : ℕ). getD (put w a Q) i 0) (sym e) ∙ getD-put-in w a Q (omega (arith, long-Q)) (k - a) (omega (arith, long-Q))
-
-    back : (k : ℕ) → a ≤ k → k < a + m → getD P (k - a) 0 ≡ getD w k 0
-    back k l g = let e : a + (k - a) ≡ k = omega arith in at-P (k - a) (omega arith) ∙ ap (λ (i : ℕ). getD w i 0) e
-
-    pub put-in-part : put w a (put (take m (drop a w)) b vs) ≡ put w (a + b) vs
-    put-in-part =
-        ext-getD 0 (put w a Q) (put w (a + b) vs)
-        (length-put w a Q (omega (arith, long-Q)) ∙ sym (length-put w (a + b) vs (omega arith)))
-        (λ k h. go k (decLt k a) (decLt k (a + b)) (decLt k (a + b + length vs)) (decLt k (a + m)))
-      where
-        go : (k : ℕ) → Dec (k < a) → Dec (k < a + b) → Dec (k < a + b + length vs) → Dec (k < a + m) → getD (put w a Q) k 0 ≡ getD (put w (a + b) vs) k 0
-        go k (yes l) g h i =
-            getD-put-before w a Q (omega (arith, long-Q)) k l ∙ sym (getD-put-before w (a + b) vs (omega arith) k (omega arith))
-        go k (no l) (yes g) h i =
-            into k (omega arith) (omega arith)
-            ∙ getD-put-before P b vs (omega (arith, long-P)) (k - a) (omega arith)
-            ∙ back k (omega arith) (omega arith)
-            ∙ sym (getD-put-before w (a + b) vs (omega arith) k g)
-        go k (no l) (no g) (yes h) i =
-            let e : b + (k - a - b) ≡ k - a = omega arith in
-            let e′ : a + b + (k - a - b) ≡ k = omega arith in
-            into k (omega arith) (omega arith)
-            ∙ ap (λ (x : ℕ). getD Q x 0) (sym e)
-            ∙ getD-put-in P b vs (omega (arith, long-P)) (k - a - b) (omega arith)
-            ∙ sym (getD-put-in w (a + b) vs (omega arith) (k - a - b) (omega arith))
-            ∙ ap (λ (x : ℕ). getD (put w (a + b) vs) x 0) e′
-        go k (no l) (no g) (no h) (yes i) =
-            into k (omega arith) i
-            ∙ getD-put-after P b vs (omega (arith, long-P)) (k - a) (omega arith)
-            ∙ back k (omega arith) i
-            ∙ sym (getD-put-after w (a + b) vs (omega arith) k (omega arith))
-        go k (no l) (no g) (no h) (no i) =
-            getD-put-after w a Q (omega (arith, long-Q)) k (omega (arith, long-Q)) ∙ sym (getD-put-after w (a + b) vs (omega arith) k (omega arith))
-
 -- ---- checks 8 to 11, as the code comes to them
 
 module _ (chambers store : List ℕ) (id : ℕ) (box : BinSection) where
@@ -155,9 +82,9 @@ module _ (chambers store : List ℕ) (id : ℕ) (box : BinSection) where
   abbrev pub decided : Outcome
   decided = inOrder (returnChecks chambers store id box) (refused chambers store) (returned chambers store id box)
 
-  module _ (k : ℕ) (found : k ≡ lowest (chamberCount chambers) (hasId chambers id)) where
+  module _ (k : ℕ) (found : k ≡ chamberOf chambers id) where
     pub return-unknown : chamberCount chambers ≤ k → outcome (reply 8 0) chambers store ≡ decided
-    unfolding returnChecks c8 rest
+    unfolding returnChecks chamberOf c8 rest
     return-unknown h =
         sym (fires (refused chambers store) (returned chambers store id box) c8 rest
         (ap not (any-lowest (chamberCount chambers) (hasId chambers id) ∙ found-passes _ k (hasId chambers id) found h)))
@@ -166,22 +93,18 @@ module _ (chambers store : List ℕ) (id : ℕ) (box : BinSection) where
       abbrev L : List ℕ
       L = take (k * 768 + 768 - k * 768) (drop (k * 768) store)
 
-      here : k ≡ chamberOf chambers id
-      unfolding chamberOf
-      here = found
-
       bin-is : chamberAt chambers (chamberOf chambers id) ≡ b
-      bin-is = sym (read ∙ ap (chamberAt chambers) here)
+      bin-is = sym (read ∙ ap (chamberAt chambers) found)
 
       -- past 8 the checks are those of the part that is lent
       past8 : decided ≡ inOrder (pushChecks b L box) (refused chambers store) (stored chambers store k (b .count) box)
-      unfolding returnChecks returned c8 rest
+      unfolding returnChecks returned chamberOf c8 rest
       past8 =
           passes (refused chambers store) (returned chambers store id box) c8 rest
           (ap not (any-lowest (chamberCount chambers) (hasId chambers id) ∙ found-fires _ k (hasId chambers id) found h))
           ∙ ap₂ (λ (cs : List Check) (o : Outcome). inOrder cs (refused chambers store) o)
-          (ap₂ (λ (x : TargetBin) (p : List ℕ). pushChecks x p box) bin-is (sym (lent-part store k ∙ ap (partAt store) here)))
-          (ap₂ (λ (i : ℕ) (x : TargetBin). stored chambers store i (x .count) box) (sym here) bin-is)
+          (ap₂ (λ (x : TargetBin) (p : List ℕ). pushChecks x p box) bin-is (sym (lent-part store k ∙ ap (partAt store) found)))
+          (ap₂ (λ (i : ℕ) (x : TargetBin). stored chambers store i (x .count) box) (sym found) bin-is)
 
       module _ (ys : List ℕ) (answer : Reply) (long : length ys ≡ length L)
           (replied : answer ≡ inOrder (pushChecks b L box) (λ a. a) (reply 0 (b .count)))

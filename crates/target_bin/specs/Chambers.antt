@@ -1,7 +1,10 @@
 -- The chamber table: a record of five words for each chamber.
 use Prim.Native.Nat.{ℕ, _+_, _*_, _/_}
 use mathlib.Core.List.{List, [], _∷_}
+use mathlib.Core.Bool.{Bool}
 use lib.ListN.{length, getD}
+use lib.Dec.{eqb}
+use Rattle.lists.specs.Lowest.{lowest}
 use Rattle.lists.specs.Tab.{tab}
 use Rattle.bin_section.specs.declared.width_height_depth.WidthHeightDepth.{WidthHeightDepth}
 use Rattle.bin_section.specs.Sides.{sides}
@@ -11,7 +14,7 @@ use Rattle.target_bin.specs.declared.chamber.TargetBin.{TargetBin}
 abbrev pub bin : ℕ → WidthHeightDepth → ℕ → TargetBin
 bin id whd count = record { id = id; whd = whd; count = count }
 
--- "the fresh chamber record": "each count 1"
+-- a fresh chamber: "sets each count to 1"
 abbrev pub freshBin : ℕ → WidthHeightDepth → TargetBin
 freshBin id whd = bin id whd 1
 
@@ -34,3 +37,11 @@ chambersOf w = tab (chamberCount w) (chamberAt w)
 -- the table written
 abbrev pub tableOf : List TargetBin → List ℕ
 tableOf = joined (λ b. binWords b)
+
+-- whether the chamber at an index "has the id"
+abbrev pub hasId : List ℕ → ℕ → ℕ → Bool
+hasId w id i = eqb (chamberAt w i .id) id
+
+-- the index of the chamber that has the id; the number of chambers where none has it
+unfoldable pub chamberOf : List ℕ → ℕ → ℕ
+chamberOf w id = lowest (chamberCount w) (hasId w id)

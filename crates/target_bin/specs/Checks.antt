@@ -31,6 +31,7 @@ shapeOk chambers i = idOk chambers i && sidesOk (chamberAt chambers i .whd)
 unfoldable pub chamberOk : List ℕ → ℕ → Bool
 chamberOk chambers i = shapeOk chambers i && leb (chamberAt chambers i .count) 128
 
+-- the faulty ones
 abbrev pub badShape : List ℕ → ℕ → Bool
 badShape chambers i = not (shapeOk chambers i)
 
@@ -42,23 +43,23 @@ unfoldable pub badSections : List ℕ → List ℕ → ℕ → Bool
 badSections chambers store i =
     anyBelow (chamberAt chambers i .count) (outsideAt (chamberAt chambers i .whd) (partAt store i))
 
--- 8: the chamber at an index "has the id"
-abbrev pub hasId : List ℕ → ℕ → ℕ → Bool
-hasId chambers id i = eqb (chamberAt chambers i .id) id
-
+-- 1: "a table's length breaks the numbers above"
 abbrev pub check1 : List ℕ → List ℕ → Check
 check1 chambers store = once 1 (not (lengthsOk chambers store))
 
--- "2 (old counts ignored)"
+-- "2 (old counts ignored)"; the detail is the "chamber index"
 abbrev pub check2Fresh : List ℕ → Check
 check2Fresh chambers = each 2 (chamberCount chambers) (badShape chambers)
 
+-- 2: "chamber id not above its predecessor, side 0 or above 65,535, count above 128"
 abbrev pub check2 : List ℕ → Check
 check2 chambers = each 2 (chamberCount chambers) (badChamber chambers)
 
+-- 3: the detail is the "chamber index"
 abbrev pub check3 : List ℕ → List ℕ → Check
 check3 chambers store = each 3 (chamberCount chambers) (badSections chambers store)
 
+-- "Checks go in this order, each over the whole table before the next."
 abbrev pub tableChecks : List ℕ → List ℕ → List Check
 tableChecks chambers store = check1 chambers store ∷ check2 chambers ∷ check3 chambers store ∷ []
 

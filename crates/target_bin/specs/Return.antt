@@ -4,21 +4,17 @@ use mathlib.Core.List.{List, [], _∷_, _++_}
 use mathlib.Core.Bool.{not}
 use lib.ListN.{set}
 use lib.Dec.{eqb}
-use Rattle.lists.specs.Lowest.{lowest, anyBelow}
+use Rattle.lists.specs.Lowest.{anyBelow}
 use Rattle.lists.specs.Tab.{put}
 use Rattle.bin_section.specs.declared.section.BinSection.{BinSection}
 use Rattle.bin_section.specs.Section.{wordsOf}
 use Rattle.bin_section.specs.Replies.{Check, reply, once, each, inOrder}
 use Rattle.sections.specs.Inside.{insideOf, sharesAt}
 use Rattle.target_bin.specs.declared.chamber.TargetBin.{TargetBin}
-use Rattle.target_bin.specs.Chambers.{chamberAt, chamberCount}
+use Rattle.target_bin.specs.Chambers.{chamberAt, chamberCount, hasId, chamberOf}
 use Rattle.target_bin.specs.Store.{partAt}
-use Rattle.target_bin.specs.Checks.{hasId, tableChecks}
+use Rattle.target_bin.specs.Checks.{tableChecks}
 use Rattle.target_bin.specs.Outcome.{Outcome, outcome, refused}
-
--- the index of the chamber that has the id
-unfoldable pub chamberOf : List ℕ → ℕ → ℕ
-chamberOf chambers id = lowest (chamberCount chambers) (hasId chambers id)
 
 -- 9: "box has a zero side or reaches past the chamber"; 10: "a free section shares a cell with the box"; 11: "128 sections are there"
 unfoldable pub pushChecks : TargetBin → List ℕ → BinSection → List Check

@@ -4,8 +4,8 @@ ghost use Prim.Native.Nat.{_+_, _*_, _≤_};
 ghost use lib.ListN.{length};
 ghost use Rattle.lists.specs.Lowest.{lowest};
 ghost use Rattle.bin_section.specs.Replies.{reply, inOrder};
-ghost use Rattle.target_bin.specs.Chambers.{chamberAt, chamberCount};
-ghost use Rattle.target_bin.specs.Checks.{lengthsOk, idOk, shapeOk, chamberOk, badShape, badChamber, badSections, hasId, tableChecks, Counted, Shaped};
+ghost use Rattle.target_bin.specs.Chambers.{chamberAt, chamberCount, chamberOf};
+ghost use Rattle.target_bin.specs.Checks.{lengthsOk, idOk, shapeOk, chamberOk, badShape, badChamber, badSections, tableChecks, Counted};
 use crate::chamber::TargetBin;
 use bin_section::Reply;
 use sections::first_outside;
@@ -132,7 +132,7 @@ pub fn check_tables(chambers: &[u32], store: &[u32]) -> Reply
 
 // The chamber that has the id, or their number where none has it.
 pub fn find_chamber(chambers: &[u32], id: u32) -> usize
-    ensures { λ r. ⌜ r ≡ lowest (chamberCount (now (chambers .entry))) (hasId (now (chambers .entry)) id) ⌝ }
+    ensures { λ r. ⌜ r ≡ chamberOf (now (chambers .entry)) id ⌝ }
 {
     let n = chambers.len() / TargetBin::WORDS;
     let mut i = 0;

@@ -9,9 +9,9 @@ ghost use Rattle.target_bin.specs.Return.{pushChecks};
 use crate::chamber::TargetBin;
 use bin_section::BinSection;
 use bin_section::Reply;
+use bin_section::inside;
 use sections::append_section;
 use sections::first_sharing;
-use sections::inside;
 
 // Checks 9, 10 and 11, then the append. The Rust tests the origin alone, and overlap one way; its comments decide.
 pub fn push_available_bin_section(part: &mut [u32], bin: TargetBin, section: BinSection) -> Reply

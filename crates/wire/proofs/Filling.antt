@@ -20,7 +20,7 @@ four-stores b at p q r s h = simp towards-suc (simp towards-suc at (sets-eq (p �
 
 -- ---- words read
 
-length-wordsIn : (b : List ℕ) (n : ℕ) → length (wordsIn b n) ≡ n
+pub length-wordsIn : (b : List ℕ) (n : ℕ) → length (wordsIn b n) ≡ n
 unfolding wordsIn
 length-wordsIn b n = length-tab n (wordAt b)
 

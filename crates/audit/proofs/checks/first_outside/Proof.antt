@@ -3,7 +3,8 @@ use native.Mathlib.Omega.{arith}
 use borrow.Author.Needs.{needs}
 use Rattle.lists.proofs.Lowests.{None, none-zero, none-more}
 use Rattle.cells.specs.Whole.{boxAt}
-use Rattle.audit.specs.Audit.{auditBoxes, outside}
+use Rattle.bin_section.specs.Inside.{outside}
+use Rattle.audit.specs.Audit.{auditBoxes}
 use Rattle.audit.proofs.TwoLists.{found, found-none}
 use Rattle.audit.proofs.checks.first_outside.Statement.{statement}
 use Rattle.audit.proofs.checks.first_outside.Tie as tie
@@ -29,8 +30,8 @@ loop-holds c = none-zero _
 box-at-requires : tie.Need-box-at-requires Inv-loop μ-loop
 box-at-requires c κs = omega arith
 
-is-outside-requires : tie.Need-is-outside-requires Inv-loop μ-loop
-is-outside-requires c κs = search needs
+inside-requires : tie.Need-inside-requires Inv-loop μ-loop
+inside-requires c κs = search needs
 
 returns : tie.Need-returns Inv-loop μ-loop
 returns c = let l = c .before .before .before .before in found _ _ _ _ _ (omega arith) (l .loop .inv) (c .before .before .before .loop-test .taken) (cc)
@@ -58,7 +59,7 @@ first-outside-spec =
     add-n
     loop-holds
     box-at-requires
-    is-outside-requires
+    inside-requires
     returns
     add-i
     loop-less

@@ -4,8 +4,7 @@ use native.Mathlib.Omega.{arith}
 use borrow.Author.Needs.{needs}
 use Rattle.bin_section.specs.Section.{sectionAt}
 use Rattle.bin_section.specs.Overlap.{overlapsOf}
-use Rattle.lists.proofs.Lowests.{None, none-zero, none-more, none-less, none-any}
-use Rattle.audit.proofs.Anys.{any-here}
+use Rattle.lists.proofs.Lowests.{None, none-zero, none-more, none-less, none-any, any-here}
 use Rattle.audit.proofs.checks.shares_with.Statement.{statement}
 use Rattle.audit.proofs.checks.shares_with.Tie as tie
 

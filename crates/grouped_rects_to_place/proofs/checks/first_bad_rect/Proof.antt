@@ -1,8 +1,7 @@
+use Rattle.grouped_rects_to_place.proofs.Checking.{bad-turn}
 use borrow.Author.Needs.{needs}
-use borrow.Author.Tests.{not-true, not-false}
 use Prim.Native.Nat.{_-_, _≤_}
-use mathlib.Core.Path.{_≡_, refl, sym, ap, _∙_}
-use mathlib.Core.Bool.{true, false, not}
+use mathlib.Core.Path.{sym, _∙_}
 use Rattle.grouped_rects_to_place.specs.Rect.{rectAt}
 use Rattle.grouped_rects_to_place.specs.Checks.{badRect}
 use Rattle.lists.proofs.Lowests.{None, none-zero, none-more, lowest-here, lowest-end}
@@ -24,17 +23,13 @@ read-requires c κs = search needs
 in-range-requires : tie.Need-in-range-requires Inv-loop μ-loop
 in-range-requires c κs = search needs
 
--- the test of a turn is the check at i
-fires : (c : tie.Then1 Inv-loop μ-loop) → badRect (rectAt (c .before .before .before .before .before .before .args .rects .now)) (c .before .before .before .before .loop .i) ≡ true
-unfolding badRect
-fires c = cc
-
-fine : (c : tie.Else1 Inv-loop μ-loop) → badRect (rectAt (c .before .before .before .before .before .before .args .rects .now)) (c .before .before .before .before .loop .i) ≡ false
-unfolding badRect
-fine c = cc
-
 returns : tie.Need-returns Inv-loop μ-loop
-returns c = let l = c .before .before .before .before .loop in (sym (lowest-here _ (l .i) _ (l .inv .1) (c .before .before .before .loop-test .taken) (fires c)), search needs)
+returns c =
+    let l = c .before .before .before .before .loop in (
+      sym (lowest-here _ (l .i) _ (l .inv .1) (c .before .before .before .loop-test .taken)
+          (bad-turn _ _ _ _ (c .before .before .read .ensures) (c .before .in-range .ensures) ∙ c .if1 .taken)),
+      search needs,
+    )
 
 add-i : tie.Need-add-i Inv-loop μ-loop
 add-i c = search needs
@@ -43,7 +38,12 @@ loop-less : tie.Need-loop-less Inv-loop μ-loop
 loop-less c = search needs
 
 loop-again : tie.Need-loop-again Inv-loop μ-loop
-loop-again c = let l = c .before .before .before .before .loop in (search needs, none-more (l .i) _ (l .inv .1) (fine c))
+loop-again c =
+    let l = c .before .before .before .before .loop in (
+      search needs,
+      none-more (l .i) _ (l .inv .1)
+          (bad-turn _ _ _ _ (c .before .before .read .ensures) (c .before .in-range .ensures) ∙ c .if1 .left),
+    )
 
 returns-2 : tie.Need-returns-2 Inv-loop μ-loop
 returns-2 c = let l = c .before .loop in (sym (lowest-end _ (l .i) _ (l .inv .1) (c .loop-test .left)), search needs)

@@ -20,7 +20,11 @@ repeated-requires : tie.Need-repeated-requires Inv-loop μ-loop
 repeated-requires c κs = search needs
 
 returns : tie.Need-returns Inv-loop μ-loop
-returns c = let l = c .before .before .before .loop in (sym (lowest-here _ (l .i) _ (l .inv .1) (c .before .before .loop-test .taken) (sym (c .before .repeated .ensures) ∙ c .if1 .taken)), search needs)
+returns c =
+    let l = c .before .before .before .loop in (
+      sym (lowest-here _ (l .i) _ (l .inv .1) (c .before .before .loop-test .taken) (sym (c .before .repeated .ensures) ∙ c .if1 .taken)),
+      search needs,
+    )
 
 add-i : tie.Need-add-i Inv-loop μ-loop
 add-i c = search needs
@@ -29,7 +33,11 @@ loop-less : tie.Need-loop-less Inv-loop μ-loop
 loop-less c = search needs
 
 loop-again : tie.Need-loop-again Inv-loop μ-loop
-loop-again c = let l = c .before .before .before .loop in (search needs, none-more (l .i) _ (l .inv .1) (sym (c .before .repeated .ensures) ∙ c .if1 .left))
+loop-again c =
+    let l = c .before .before .before .loop in (
+      search needs,
+      none-more (l .i) _ (l .inv .1) (sym (c .before .repeated .ensures) ∙ c .if1 .left),
+    )
 
 returns-2 : tie.Need-returns-2 Inv-loop μ-loop
 returns-2 c = let l = c .before .loop in (sym (lowest-end _ (l .i) _ (l .inv .1) (c .loop-test .left)), search needs)

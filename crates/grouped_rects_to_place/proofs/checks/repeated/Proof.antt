@@ -1,9 +1,7 @@
-use Rattle.grouped_rects_to_place.specs.declared.rect_to_place.RectToPlace.{RectToPlace}
+use Rattle.grouped_rects_to_place.proofs.Checking.{ids-same, ids-differ}
 use borrow.Author.Needs.{needs}
-use borrow.Author.Tests.{eq-eqb, ne-eqb}
 use Prim.Native.Nat.{_-_, _≤_}
-use mathlib.Core.Path.{_≡_, refl, sym, ap, _∙_}
-use mathlib.Core.Bool.{true, false}
+use mathlib.Core.Path.{sym}
 use lib.Dec.{eqb}
 use Rattle.grouped_rects_to_place.specs.Rect.{rectAt}
 use Rattle.grouped_rects_to_place.specs.Checks.{repeatedId}
@@ -26,22 +24,13 @@ loop-holds c = (search needs, none-zero _)
 read-requires-2 : tie.Need-read-requires-2 Inv-loop μ-loop
 read-requires-2 c κs = search needs
 
--- the ids that a turn compares are those of the records
-same : (c : tie.Then1 Inv-loop μ-loop) → rectAt (c .before .before .before .before .before .before .before .before .args .rects .now) (c .before .before .before .before .before .loop .j) .id ≡ rectAt (c .before .before .before .before .before .before .before .before .args .rects .now) (c .before .before .before .before .before .before .before .before .args .i) .id
-same c =
-    sym (ap (λ (r : RectToPlace). r .id) (c .before .before .before .read2 .ensures))
-    ∙ c .if1 .taken
-    ∙ ap (λ (r : RectToPlace). r .id) (c .before .before .before .before .before .before .read .ensures)
-
-differs : (c : tie.Else1 Inv-loop μ-loop) → rectAt (c .before .before .before .before .before .before .before .before .args .rects .now) (c .before .before .before .before .before .loop .j) .id ≡ rectAt (c .before .before .before .before .before .before .before .before .args .rects .now) (c .before .before .before .before .before .before .before .before .args .i) .id → c .before .before .before .read2 .result .id ≡ c .before .before .before .before .before .before .read .result .id
-differs c e =
-    ap (λ (r : RectToPlace). r .id) (c .before .before .before .read2 .ensures)
-    ∙ e
-    ∙ sym (ap (λ (r : RectToPlace). r .id) (c .before .before .before .before .before .before .read .ensures))
-
 returns : tie.Need-returns Inv-loop μ-loop
 unfolding repeatedId
-returns c = let l = c .before .before .before .before .before .loop in sym (any-here _ (l .j) _ (c .before .before .before .before .loop-test .taken) (eq-eqb _ _ (same c)))
+returns c =
+    let l = c .before .before .before .before .before .loop in
+    sym (any-here _ (l .j) _ (c .before .before .before .before .loop-test .taken)
+    (ids-same _ _ _ _ _ (c .before .before .before .read2 .ensures) (c .before .before .before .before .before .before .read .ensures)
+    (c .if1 .taken)))
 
 add-j : tie.Need-add-j Inv-loop μ-loop
 add-j c = search needs
@@ -50,7 +39,13 @@ loop-less : tie.Need-loop-less Inv-loop μ-loop
 loop-less c = search needs
 
 loop-again : tie.Need-loop-again Inv-loop μ-loop
-loop-again c = let l = c .before .before .before .before .before .loop in (search needs, none-more (l .j) _ (l .inv .1) (ne-eqb _ _ (λ e. c .if1 .left (differs c e))))
+loop-again c =
+    let l = c .before .before .before .before .before .loop in (
+      search needs,
+      none-more (l .j) _ (l .inv .1)
+          (ids-differ _ _ _ _ _ (c .before .before .before .read2 .ensures) (c .before .before .before .before .before .before .read .ensures)
+          (c .if1 .left)),
+    )
 
 returns-2 : tie.Need-returns-2 Inv-loop μ-loop
 unfolding repeatedId

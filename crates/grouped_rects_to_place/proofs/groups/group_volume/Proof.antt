@@ -1,9 +1,6 @@
-use mathlib.Core.Path.{ap₂}
-use Prim.Native.Nat.{_+_}
-use Prim.Native.Nat.{ℕ}
+use Prim.Native.Nat.{ℕ, _+_, _-_, _≤_, _*_}
+use mathlib.Core.Path.{ap₂, _≡_, refl, ap, _∙_}
 use borrow.Author.Needs.{needs}
-use Prim.Native.Nat.{_-_, _≤_, _*_}
-use mathlib.Core.Path.{_≡_, refl, sym, ap, _∙_}
 use native.Mathlib.Omega.{arith}
 use native.Mathlib.Numerals.{add-one}
 use Rattle.grouped_rects_to_place.specs.Rect.{rectAt}
@@ -40,7 +37,11 @@ loop-again c = let l = c .before .before .loop in (search needs, rw (add-one (l 
 
 returns : tie.Need-returns Inv-loop μ-loop
 unfolding groupVolume
-returns c = let l = c .before .loop in l .inv .1 ∙ ap (λ (m : ℕ). sumTo m (share (rectAt (c .before .before .before .args .rects .now)) (c .before .before .before .args .lead))) (omega arith)
+returns c =
+    let l = c .before .loop in
+    l .inv .1
+    ∙ ap (λ (m : ℕ). sumTo m (share (rectAt (c .before .before .before .args .rects .now)) (c .before .before .before .args .lead)))
+    (omega arith)
 
 pub group-volume-spec : {M : Type 1} → statement M
 group-volume-spec =

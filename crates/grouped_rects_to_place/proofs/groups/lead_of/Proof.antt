@@ -1,6 +1,6 @@
 use borrow.Author.Needs.{needs}
 use Prim.Native.Nat.{_-_, _≤_}
-use mathlib.Core.Path.{_≡_, refl, sym, ap, _∙_}
+use mathlib.Core.Path.{sym, _∙_}
 use Rattle.grouped_rects_to_place.specs.Rect.{rectAt}
 use Rattle.grouped_rects_to_place.specs.Groups.{sameGroup, leadOf}
 use Rattle.lists.proofs.Lowests.{None, none-zero, none-more, lowest-here, lowest-end}
@@ -21,7 +21,11 @@ same-group-requires c κs = search needs
 
 returns : tie.Need-returns Inv-loop μ-loop
 unfolding leadOf
-returns c = let l = c .before .before .before .loop in (sym (lowest-here _ (l .j) _ (l .inv .1) (c .before .before .loop-test .taken) (sym (c .before .same-group .ensures) ∙ c .if1 .taken)), search needs)
+returns c =
+    let l = c .before .before .before .loop in (
+      sym (lowest-here _ (l .j) _ (l .inv .1) (c .before .before .loop-test .taken) (sym (c .before .same-group .ensures) ∙ c .if1 .taken)),
+      search needs,
+    )
 
 add-j : tie.Need-add-j Inv-loop μ-loop
 add-j c = search needs
@@ -30,7 +34,11 @@ loop-less : tie.Need-loop-less Inv-loop μ-loop
 loop-less c = search needs
 
 loop-again : tie.Need-loop-again Inv-loop μ-loop
-loop-again c = let l = c .before .before .before .loop in (search needs, none-more (l .j) _ (l .inv .1) (sym (c .before .same-group .ensures) ∙ c .if1 .left))
+loop-again c =
+    let l = c .before .before .before .loop in (
+      search needs,
+      none-more (l .j) _ (l .inv .1) (sym (c .before .same-group .ensures) ∙ c .if1 .left),
+    )
 
 returns-2 : tie.Need-returns-2 Inv-loop μ-loop
 unfolding leadOf

@@ -1,7 +1,6 @@
 use borrow.Author.Needs.{needs}
-use Prim.Native.Nat.{_-_, _≤_}
-use mathlib.Core.Path.{_≡_, refl, sym, ap, _∙_}
-use native.Mathlib.Omega.{arith}
+use Prim.Native.Nat.{_-_}
+use mathlib.Core.Path.{_≡_, refl}
 use lib.ListN.{length}
 use Rattle.grouped_rects_to_place.specs.Rect.{rectAt}
 use Rattle.grouped_rects_to_place.specs.Groups.{sameGroup}
@@ -31,7 +30,12 @@ loop-less : tie.Need-loop-less Inv-loop μ-loop
 loop-less c = search needs
 
 loop-again : tie.Need-loop-again Inv-loop μ-loop
-loop-again c = let l = c .before .before .before .before .before .before .loop in (picking-more _ _ _ _ _ _ _ _ (l .inv .0) (c .before .before .before .before .before .loop-test .taken) (c .before .before .before .before .same-group .ensures) (c .before .before .push-if .ensures), search needs)
+loop-again c =
+    let l = c .before .before .before .before .before .before .loop in (
+      picking-more _ _ _ _ _ _ _ _ (l .inv .0) (c .before .before .before .before .before .loop-test .taken)
+          (c .before .before .before .before .same-group .ensures) (c .before .before .push-if .ensures),
+      search needs,
+    )
 
 same-length : tie.Need-same-length Inv-loop μ-loop
 same-length c = search needs

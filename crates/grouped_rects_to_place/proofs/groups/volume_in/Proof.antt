@@ -1,7 +1,7 @@
 use Rattle.grouped_rects_to_place.specs.declared.rect_to_place.RectToPlace.{RectToPlace}
 use Rattle.bin_section.specs.Sides.{volumeOf}
 use borrow.Author.Tests.{not-true, not-false}
-use mathlib.Core.Path.{_≡_, refl, sym, ap, _∙_}
+use mathlib.Core.Path.{sym, ap, _∙_}
 use Rattle.lists.proofs.Flags.{cond-yes, cond-no}
 use Rattle.grouped_rects_to_place.specs.Groups.{share}
 use borrow.Author.Needs.{needs}
@@ -23,7 +23,11 @@ volume-requires c κs = let s = c .before .before .before .before in rw (c .read
 
 returns-2 : tie.Need-returns-2
 unfolding share
-returns-2 c = (c .volume .ensures .0 ∙ ap (λ (q : RectToPlace). volumeOf (q .whd)) (c .before .read .ensures) ∙ sym (cond-yes _ _ _ (sym (c .before .before .before .same-group .ensures) ∙ not-false _ (c .before .before .if1 .left))), c .volume .ensures .1)
+returns-2 c = (
+  c .volume .ensures .0 ∙ ap (λ (q : RectToPlace). volumeOf (q .whd)) (c .before .read .ensures) ∙ sym (cond-yes _ _ _ (sym
+      (c .before .before .before .same-group .ensures) ∙ not-false _ (c .before .before .if1 .left))),
+  c .volume .ensures .1,
+)
 
 pub volume-in-spec : {M : Type 1} → statement M
 volume-in-spec =

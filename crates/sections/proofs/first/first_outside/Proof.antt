@@ -2,7 +2,7 @@ use mathlib.Core.List.{List}
 use Rattle.bin_section.specs.declared.section.BinSection.{BinSection}
 use Rattle.bin_section.specs.Section.{sectionAt}
 use Rattle.bin_section.specs.declared.width_height_depth.WidthHeightDepth.{WidthHeightDepth}
-use Rattle.sections.specs.Inside.{insideOf}
+use Rattle.bin_section.specs.Inside.{insideOf}
 use mathlib.Core.Bool.{Bool, not}
 use Prim.Native.Nat.{ℕ, _≤_, _-_}
 use mathlib.Core.Path.{_≡_, sym}

@@ -4,8 +4,7 @@ use borrow.Author.Needs.{needs}
 use borrow.Author.Tests.{eq-eqb, ne-eqb}
 use Rattle.lists.proofs.Lowests.{None, none-zero, none-more, lowest-here, lowest-end}
 use Rattle.target_bin.specs.declared.chamber.TargetBin.{TargetBin}
-use Rattle.target_bin.specs.Chambers.{chamberCount}
-use Rattle.target_bin.specs.Checks.{hasId}
+use Rattle.target_bin.specs.Chambers.{chamberCount, hasId, chamberOf}
 use Rattle.target_bin.proofs.checks.find_chamber.Statement.{statement}
 use Rattle.target_bin.proofs.checks.find_chamber.Tie as tie
 
@@ -22,6 +21,7 @@ read-requires : tie.Need-read-requires Inv-loop μ-loop
 read-requires c κs = search needs
 
 returns : tie.Need-returns Inv-loop μ-loop
+unfolding chamberOf
 returns c =
     let h = c .before .before .before .before in
     sym (lowest-here _ _ _ (h .loop .inv .1 .1) (search needs) (eq-eqb _ _ (ap (λ (b : TargetBin). b .id) (sym (c .before .before .read .ensures)) ∙ c .if1 .taken)))
@@ -38,6 +38,7 @@ loop-again c =
     (search needs, (search needs, none-more _ _ (h .loop .inv .1 .1) (ne-eqb _ _ (λ e. c .if1 .left (ap (λ (b : TargetBin). b .id) (c .before .before .read .ensures) ∙ e)))))
 
 returns-2 : tie.Need-returns-2 Inv-loop μ-loop
+unfolding chamberOf
 returns-2 c = let h = c .before .loop .inv in h .0 ∙ sym (lowest-end _ _ _ (h .1 .1) (search needs))
 
 pub find-chamber-spec : {M : Type 1} → statement M

@@ -1,9 +1,7 @@
 use mathlib.Core.Path.{refl}
 use Rattle.grouped_rects_to_place.specs.Rect.{rectAt}
 use borrow.Author.Needs.{needs}
-use Rattle.grouped_rects_to_place.proofs.rect_to_place.RectToPlace.read.Statement.{
-  statement,
-}
+use Rattle.grouped_rects_to_place.proofs.rect_to_place.RectToPlace.read.Statement.{statement}
 use Rattle.grouped_rects_to_place.proofs.rect_to_place.RectToPlace.read.Tie as tie
 
 mul-at : tie.Need-mul-at

@@ -1,0 +1,4 @@
+pub mod Decimals
+pub mod Numerals
+pub mod Reading
+pub mod Writing

@@ -1,0 +1,56 @@
+-- The packing from tables that passed the checks, and pack as a whole.
+use Prim.Native.Nat.{ℕ, _*_}
+use mathlib.Core.Path.{_≡_, refl, sym, ap, _∙_}
+use mathlib.Core.List.{List}
+use lib.ListN.{length, replicate}
+use Rattle.bin_section.specs.declared.reply.Reply.{Reply}
+use Rattle.bin_section.specs.declared.section.BinSection.{BinSection}
+use Rattle.bin_section.specs.Replies.{reply, inOrder}
+use Rattle.target_bin.specs.Chambers.{chamberAt}
+use Rattle.target_bin.specs.Store.{freeOf}
+use Rattle.target_bin.proofs.Ordering.{answerOf, alone-passes, alone-fires}
+use Rattle.grouped_rects_to_place.specs.Rect.{rectAt}
+use Rattle.grouped_rects_to_place.specs.Groups.{groupsOf}
+use Rattle.rectangle_pack.specs.Order.{trialOrder}
+use Rattle.rectangle_pack.specs.Packing.{state, packGroups}
+use Rattle.rectangle_pack.specs.Pack.{rectCount, packChecks, start, packing, PackOutcome, packOutcome, written, packOf}
+use Rattle.rectangle_pack.specs.Seats.{unplaced}
+use Rattle.rectangle_pack.specs.Leaning.{Tidied, GroupsPacked}
+use Rattle.rectangle_pack.proofs.Checked.{pack-numbered}
+use Rattle.rectangle_pack.proofs.Running.{all-written}
+use Rattle.rectangle_pack.proofs.Tables.{zero-placements}
+use Rattle.rectangle_pack.proofs.Tidying.{tidied-free}
+
+pub packing-done :
+    (c st rects p st₁ p₁ : List ℕ) (a : Reply) (c′ st′ p′ : List ℕ)
+    → length p ≡ rectCount rects * 5
+    → Tidied c st st₁
+    → p₁ ≡ replicate (length p) 0
+    → GroupsPacked (rectAt rects) (rectCount rects) a c st₁ p₁ c′ st′ p′
+    → packOutcome a c′ st′ p′ ≡ written c (packing c st rects)
+unfolding packing start
+packing-done c st rects p st₁ p₁ a c′ st′ p′ long tidy zeros done =
+    let seats = replicate (rectCount rects) unplaced in
+    let w = done .packed seats (zeros ∙ ap (λ (n : ℕ). replicate n 0) long ∙ zero-placements (rectCount rects)) in
+    all-written _ c a c′ st′ p′ w
+    ∙ ap
+    (λ (f : List (List BinSection)).
+    written c (packGroups (trialOrder c) (λ k. chamberAt c k .id) (rectAt rects) (groupsOf (rectCount rects) (rectAt rects)) (state f seats)))
+    (tidied-free c st st₁ tidy)
+
+module _ (c st rects p : List ℕ) (r : Reply) (e : r ≡ answerOf (packChecks c st rects p) (reply 0 0)) where
+  -- a check fires
+  pub pack-refused : (r .number ≡ 0 → ⊥) → packOutcome r c st p ≡ packOf c st rects p
+  unfolding packOf
+  pack-refused n =
+      ap (λ (x : Reply). packOutcome x c st p) e
+      ∙ sym (alone-fires (λ x. packOutcome x c st p) (written c (packing c st rects)) (reply 0 0) (packChecks c st rects p) refl
+      (λ z. n (ap (λ (x : Reply). x .number) e ∙ z)))
+
+  -- none does
+  pub pack-done : r .number ≡ 0 → (o : PackOutcome) → o ≡ written c (packing c st rects) → o ≡ packOf c st rects p
+  unfolding packOf
+  pack-done z o f =
+      f
+      ∙ sym (alone-passes (λ x. packOutcome x c st p) (written c (packing c st rects)) (reply 0 0) (packChecks c st rects p) (pack-numbered c st rects p)
+      (sym (ap (λ (x : Reply). x .number) e) ∙ z))

@@ -1,0 +1,146 @@
+-- What the private functions of pack lean on and leave. A reader of pack's rules needs none of it.
+use Prim.Native.Nat.{ℕ, _+_, _*_, _≤_, _<_}
+use mathlib.Core.Path.{_≡_}
+use mathlib.Core.List.{List}
+use lib.ListN.{length, getD, take}
+use Rattle.bin_section.specs.declared.rect_to_insert.RectToInsert.{RectToInsert}
+use Rattle.bin_section.specs.declared.section.BinSection.{BinSection}
+use Rattle.bin_section.specs.Sides.{Small}
+use Rattle.sections.specs.Sections.{sections}
+use Rattle.sections.specs.Changes.{ZeroPast}
+use Rattle.try_place.specs.declared.packed_location.PackedLocation.{PackedLocation}
+use Rattle.placing.specs.Place.{Reaching}
+use Rattle.placing.specs.Rules.{whole, placeGroup}
+use mathlib.Core.Bool.{Bool, true, false}
+use lib.Dec.{ltb}
+use Rattle.target_bin.specs.Chambers.{chamberAt, chamberCount}
+use Rattle.target_bin.specs.Checks.{Shaped}
+use Rattle.target_bin.specs.Store.{partAt, freeOf}
+use Rattle.grouped_rects_to_place.specs.declared.rect_to_place.RectToPlace.{RectToPlace}
+use Rattle.bin_section.specs.declared.reply.Reply.{Reply}
+use Rattle.grouped_rects_to_place.specs.Rect.{rectAt, GoodRects}
+use Rattle.rectangle_pack.specs.Packing.{State, state, rectsAt, trialIn, isWhole, firstWhole, changed, Ended, packGroups}
+use Rattle.rectangle_pack.specs.Order.{trialOrder}
+use Rattle.grouped_rects_to_place.specs.Groups.{groupsOf}
+use Rattle.rectangle_pack.specs.Pack.{rectCount}
+use Rattle.rectangle_pack.specs.Seats.{Seat, seated, placementsOf}
+
+-- no side of a chamber is above 65,535
+pub record SmallChambers (chambers : List ℕ) : Type 0 where
+  pub at : (i : ℕ) → i < chamberCount chambers → Small (chamberAt chambers i .whd)
+
+-- the first count entries of order are below n
+pub record Indices (n count : ℕ) (order : List ℕ) : Type 0 where
+  pub room : count ≤ length order
+  pub below : (k : ℕ) → k < count → getD order k 0 < n
+
+-- the rectangle at an index of the table, without its id and group
+abbrev pub rectIn : List ℕ → ℕ → RectToInsert
+rectIn rects i = record { whd = rectAt rects i .whd }
+
+-- a chamber's part has room for m rectangles more
+pub record Enough (count m : ℕ) (w : List ℕ) : Type 0 where
+  pub long : length w ≡ 768
+  pub room : count + 2 * m ≤ 128
+  pub reach : Reaching count w
+
+-- the first m entries of group are indices of the table
+pub record GroupOf (rects : List ℕ) (m : ℕ) (group : List ℕ) : Type 0 where
+  pub room : m ≤ length group
+  pub listed : (k : ℕ) → k < m → getD group k 0 * 5 + 5 ≤ length rects
+
+-- a group that goes in whole stands in the chamber and has its placements
+pub record Committed (r : ℕ → RectToPlace) (group : List ℕ) (id count n : ℕ) (w w′ p p′ : List ℕ) : Type 0 where
+  pub free :
+      (ls : List PackedLocation) (f : List BinSection)
+      → placeGroup (sections w count) (rectsAt r group) ≡ whole ls f
+      → sections w′ n ≡ f
+  pub seats :
+      (ls : List PackedLocation) (f : List BinSection) (seats : List Seat)
+      → placeGroup (sections w count) (rectsAt r group) ≡ whole ls f
+      → p ≡ placementsOf seats
+      → p′ ≡ placementsOf (seated id group ls seats)
+  pub room : n ≤ count + 2 * length group
+  pub reach : Reaching n w′
+  pub zeros : ZeroPast count w → ZeroPast n w′
+
+-- the chambers are the same, but for their counts
+pub record SameShape (c c′ : List ℕ) : Type 0 where
+  pub long : length c′ ≡ length c
+  pub ids : (i : ℕ) → chamberAt c′ i .id ≡ chamberAt c i .id
+  pub sides : (i : ℕ) → chamberAt c′ i .whd ≡ chamberAt c i .whd
+
+-- the tables are whole, every chamber has room for m rectangles more, and no section reaches past 65,535
+pub record Ready (c st : List ℕ) (m : ℕ) : Type 0 where
+  pub shaped : Shaped c st
+  pub room : (k : ℕ) → k < chamberCount c → chamberAt c k .count + 2 * m ≤ 128
+  pub reach : (k : ℕ) → k < chamberCount c → Reaching (chamberAt c k .count) (partAt st k)
+
+-- "words past each count are 0"
+pub record Clean (c st : List ℕ) : Type 0 where
+  pub zeros : (k : ℕ) → k < chamberCount c → ZeroPast (chamberAt c k .count) (partAt st k)
+
+-- what one group leaves, served or not: room for the rectangles that are left, and zeros past the counts
+pub record Kept (m : ℕ) (c st c′ st′ : List ℕ) : Type 0 where
+  pub same : SameShape c c′
+  pub ready : (rest : ℕ) → Ready c st (m + rest) → Ready c′ st′ rest
+  pub clean : Clean c st → Clean c′ st′
+
+-- the tables hold the state
+pub record ChangedTo (s : State) (c′ st′ p′ : List ℕ) : Type 0 where
+  pub frees : freeOf c′ st′ ≡ s .frees
+  pub seats : p′ ≡ placementsOf (s .seats)
+
+-- the group stands in chamber k, if its trial there is whole
+pub record Served (r : ℕ → RectToPlace) (group : List ℕ) (k : ℕ) (c st p c′ st′ p′ : List ℕ) : Type 0 where
+  pub kept : Kept (length group) c st c′ st′
+  pub long : length p′ ≡ length p
+  pub changes :
+      (seats : List Seat)
+      → isWhole (trialIn r group (freeOf c st) k) ≡ true
+      → p ≡ placementsOf seats
+      → ChangedTo (changed r (chamberAt c k .id) k group (state (freeOf c st) seats)) c′ st′ p′
+
+-- one group served, or none of the tables changed
+pub record Grouped (order : List ℕ) (r : ℕ → RectToPlace) (group : List ℕ) (b : Bool) (c st p c′ st′ p′ : List ℕ) : Type 0 where
+  pub kept : Kept (length group) c st c′ st′
+  pub long : length p′ ≡ length p
+  pub found : b ≡ ltb (firstWhole order r group (freeOf c st)) (length order)
+  pub changes :
+      (seats : List Seat)
+      → b ≡ true
+      → p ≡ placementsOf seats
+      → ChangedTo
+      (changed r (chamberAt c (getD order (firstWhole order r group (freeOf c st)) 0) .id)
+      (getD order (firstWhole order r group (freeOf c st)) 0) group (state (freeOf c st) seats))
+      c′ st′ p′
+  pub none : (seats : List Seat) → b ≡ false → p ≡ placementsOf seats → ChangedTo (state (freeOf c st) seats) c′ st′ p′
+
+-- the sections are as they were, and zeros stand past each count
+pub record Tidied (c st st′ : List ℕ) : Type 0 where
+  pub long : length st′ ≡ length st
+  pub same : (k : ℕ) → k < chamberCount c → sections (partAt st′ k) (chamberAt c k .count) ≡ sections (partAt st k) (chamberAt c k .count)
+  pub clean : Clean c st′
+
+-- the packing of the groups from this state has ended so
+pub record PackedTo (e : Ended) (c : List ℕ) (answer : Reply) (c′ st′ p′ : List ℕ) : Type 0 where
+  pub answers : answer ≡ e .answer
+  pub holds : ChangedTo (e .after) c′ st′ p′
+  pub same : SameShape c c′
+  pub shaped : Shaped c′ st′
+  pub clean : Clean c′ st′
+
+-- what the checks leave
+pub record Passed (c st rects p : List ℕ) : Type 0 where
+  pub ready : Ready c st (rectCount rects)
+  pub small : SmallChambers c
+  pub rects-good : GoodRects rects (rectCount rects)
+  pub rects-long : length rects ≡ rectCount rects * 5
+  pub places-long : length p ≡ length rects
+
+-- the groups of n rectangles are packed from the state that the tables hold
+pub record GroupsPacked (r : ℕ → RectToPlace) (n : ℕ) (answer : Reply) (c st p c′ st′ p′ : List ℕ) : Type 0 where
+  pub packed :
+      (seats : List Seat)
+      → p ≡ placementsOf seats
+      → PackedTo (packGroups (trialOrder c) (λ k. chamberAt c k .id) r (groupsOf n r) (state (freeOf c st) seats)) c answer c′ st′ p′
