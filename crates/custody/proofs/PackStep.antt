@@ -28,7 +28,7 @@ use Rattle.target_bin.specs.declared.chamber.TargetBin.{TargetBin}
 use Rattle.target_bin.specs.Chambers.{chamberAt, chamberCount, tableOf}
 use Rattle.sections.proofs.Reading.{length-sections}
 use Rattle.target_bin.specs.Store.{partAt, freeAt, freeOf, storeOf}
-use Rattle.target_bin.specs.Checks.{lengthsOk, check2, check3}
+use Rattle.target_bin.specs.Checks.{check1, check2, check3}
 use Rattle.target_bin.proofs.Ordering as ordering
 use Rattle.target_bin.proofs.Passing.{SidesInRange, no-fault}
 use Rattle.target_bin.proofs.Parts.{length-freeOf, getD-freeOf}
@@ -39,7 +39,7 @@ use Rattle.grouped_rects_to_place.specs.Groups.{groupsOf}
 use Rattle.rectangle_pack.specs.Order.{tried, trialOrder}
 use Rattle.rectangle_pack.specs.Seats.{Seat, unplaced, placementsOf}
 use Rattle.rectangle_pack.specs.Packing.{state, Ended}
-use Rattle.rectangle_pack.specs.Pack.{rectCount, rectLengthsOk, noRoom, packChecks, start, packing, binsWith, PackOutcome, packOutcome, written, packOf}
+use Rattle.rectangle_pack.specs.Pack.{rectCount, rectLengthsOk, noRoom, rectChecks, packChecks, start, packing, binsWith, PackOutcome, packOutcome, written, packOf}
 use Rattle.custody.specs.Ledger.{newBoxes, places, afterPack}
 use Rattle.custody.specs.Run.{Hall, hallOf, packed, SameChambers, placedAt}
 use Rattle.custody.proofs.Between.{Good, good-ledger, same-chambers, one-index}
@@ -122,7 +122,8 @@ module _ (f : Hall) (good : Good f) (rects placements : List ℕ) where
 
   abbrev row : List Check
   row =
-      once 1 (not (lengthsOk c s && rectLengthsOk rects placements))
+      once 1 (not (rectLengthsOk rects placements))
+      ∷ check1 c s
       ∷ check2 c
       ∷ check3 c s
       ∷ each 4 n (badRect r)
@@ -132,18 +133,18 @@ module _ (f : Hall) (good : Good f) (rects placements : List ℕ) where
 
   numbered : ordering.Numbered row
   numbered =
-      ordering.more (λ (e : _≡_ {A = ℕ} 1 0). omega arith) (ordering.more (λ (e : _≡_ {A = ℕ} 2 0). omega arith)
+      ordering.more (λ (e : _≡_ {A = ℕ} 1 0). omega arith) (ordering.more (λ (e : _≡_ {A = ℕ} 1 0). omega arith) (ordering.more (λ (e : _≡_ {A = ℕ} 2 0). omega arith)
       (ordering.more (λ (e : _≡_ {A = ℕ} 3 0). omega arith) (ordering.more (λ (e : _≡_ {A = ℕ} 4 0). omega arith)
-      (ordering.more (λ (e : _≡_ {A = ℕ} 5 0). omega arith) (ordering.more (λ (e : _≡_ {A = ℕ} 6 0). omega arith) ordering.none)))))
+      (ordering.more (λ (e : _≡_ {A = ℕ} 5 0). omega arith) (ordering.more (λ (e : _≡_ {A = ℕ} 6 0). omega arith) ordering.none))))))
 
   low : Each (λ x. x .answer .number < 7) row
   low =
-      also {x = once 1 (not (lengthsOk c s && rectLengthsOk rects placements))} (omega arith) (also {x = check2 c} (omega arith)
+      also {x = once 1 (not (rectLengthsOk rects placements))} (omega arith) (also {x = check1 c s} (omega arith) (also {x = check2 c} (omega arith)
       (also {x = check3 c s} (omega arith) (also {x = each 4 n (badRect r)} (omega arith)
-      (also {x = each 5 n (repeatedId r)} (omega arith) (also {x = each 6 m (noRoom c n)} (omega arith) none)))))
+      (also {x = each 5 n (repeatedId r)} (omega arith) (also {x = each 6 m (noRoom c n)} (omega arith) none))))))
 
   row-of : packOf c s rects placements ≡ inOrder row (λ a. packOutcome a c s placements) (written c (packing c s rects))
-  unfolding packOf packChecks
+  unfolding packOf packChecks rectChecks
   row-of = refl
 
   -- ---- refused by a check
@@ -176,13 +177,13 @@ module _ (f : Hall) (good : Good f) (rects placements : List ℕ) where
     none4 = go pass
       where
         go : ordering.AllPass row → None n (badRect r)
-        go (ordering.and p1 (ordering.and p2 (ordering.and p3 (ordering.and p4 rest)))) = no-fault n (badRect r) p4
+        go (ordering.and p0 (ordering.and p1 (ordering.and p2 (ordering.and p3 (ordering.and p4 rest))))) = no-fault n (badRect r) p4
 
     none6 : None m (noRoom c n)
     none6 = go pass
       where
         go : ordering.AllPass row → None m (noRoom c n)
-        go (ordering.and p1 (ordering.and p2 (ordering.and p3 (ordering.and p4 (ordering.and p5 (ordering.and p6 rest)))))) = no-fault m (noRoom c n) p6
+        go (ordering.and p0 (ordering.and p1 (ordering.and p2 (ordering.and p3 (ordering.and p4 (ordering.and p5 (ordering.and p6 rest))))))) = no-fault m (noRoom c n) p6
 
     started : Conserved m n ids whds r (freeOf c s) (state (freeOf c s) (replicate n unplaced))
     started =

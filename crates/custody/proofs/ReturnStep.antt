@@ -20,10 +20,10 @@ use Rattle.cells.proofs.Grid.{has}
 use Rattle.cells.proofs.Held.{held, held-append, whole-same}
 use Rattle.cells.proofs.Insides.{inside-first, inside-second, inside-both, inside-more, inside-none}
 use Rattle.target_bin.specs.declared.chamber.TargetBin.{TargetBin}
-use Rattle.target_bin.specs.Chambers.{bin, chamberAt, chamberCount, chambersOf}
+use Rattle.target_bin.specs.Chambers.{bin, chamberAt, chamberCount, chambersOf, chamberOf}
 use Rattle.target_bin.specs.Store.{freeAt, freeOf}
 use Rattle.target_bin.specs.Outcome.{Outcome, outcome}
-use Rattle.target_bin.specs.Return.{chamberOf, returnOf}
+use Rattle.target_bin.specs.Return.{returnOf}
 use Rattle.target_bin.proofs.Tables.{length-chambersOf, getD-chambersOf}
 use Rattle.target_bin.proofs.Parts.{length-freeOf, getD-freeOf}
 use Rattle.target_bin.proofs.ReturnModel.{Accepted, return-done, return-refusal, return-chambers, return-free, return-sound}

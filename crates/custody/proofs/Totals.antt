@@ -17,8 +17,8 @@ use Rattle.bin_section.specs.declared.section.BinSection.{BinSection}
 use Rattle.cells.specs.Whole.{Inside}
 use Rattle.cells.proofs.Grid.{has}
 use Rattle.cells.proofs.Held.{held}
-use Rattle.audit.specs.Audit.{outside}
-use Rattle.audit.proofs.Tests.{inside→not-outside, not-outside→inside}
+use Rattle.bin_section.specs.Inside.{outside}
+use Rattle.bin_section.proofs.Bounding.{inside→not-outside, not-outside→inside}
 
 unfoldable pub total : (BinSection → ℕ) → List BinSection → ℕ
 total w [] = 0

@@ -16,17 +16,17 @@ use Rattle.bin_section.specs.Overlap.{spansMeet, overlapsOf}
 use Rattle.bin_section.specs.Replies.{reply, inOrder}
 use Rattle.cells.specs.Whole.{volumes}
 use Rattle.sections.specs.Sections.{sections, joined, allWords}
-use Rattle.sections.specs.Inside.{spanInside, insideOf}
+use Rattle.bin_section.specs.Inside.{spanInside, insideOf}
 use Rattle.try_place.specs.Splits.{sixSplits}
 use Rattle.try_place.specs.Choice.{chosen, ranksOf, bestOf, bestFrom, laterOf, betterOf}
 use Rattle.try_place.specs.Try.{fitOf}
 use Rattle.try_place.specs.Appended.{larger, keptOne, kept, appendedOf}
-use Rattle.target_bin.specs.Chambers.{chamberAt, chambersOf}
+use Rattle.target_bin.specs.Chambers.{chamberAt, chambersOf, chamberOf}
 use Rattle.target_bin.specs.Checks.{lengthsOk, idOk, shapeOk, chamberOk, badSections}
 use Rattle.target_bin.specs.Store.{partAt, freeAt, freeOf, partOf}
 use Rattle.target_bin.specs.Outcome.{Outcome, outcome}
 use Rattle.target_bin.specs.Fresh.{freshTable, freshStore, freshOf}
-use Rattle.target_bin.specs.Return.{chamberOf, pushChecks, returnChecks, returned, returnOf}
+use Rattle.target_bin.specs.Return.{pushChecks, returnChecks, returned, returnOf}
 use Rattle.grouped_rects_to_place.specs.Rect.{rectAt}
 use Rattle.grouped_rects_to_place.specs.Checks.{badRect, repeatedId}
 use Rattle.grouped_rects_to_place.specs.Groups.{sameGroup, leadOf, isLead, share, groupVolume, keyWith, comesBefore, earlier, groupOrder, groupsOf}
@@ -34,7 +34,7 @@ use Rattle.placing.specs.Rules.{placeFrom, placeOne, placeAll, placeGroup}
 use Rattle.rectangle_pack.specs.Order as order
 use Rattle.rectangle_pack.specs.Seats.{seated}
 use Rattle.rectangle_pack.specs.Packing.{rectsAt, trialIn, firstWhole, changed, packGroups}
-use Rattle.rectangle_pack.specs.Pack.{rectLengthsOk, noRoom, packChecks, start, packing, binsWith, PackOutcome, packOutcome, written, packOf}
+use Rattle.rectangle_pack.specs.Pack.{rectLengthsOk, noRoom, rectChecks, packChecks, start, packing, binsWith, PackOutcome, packOutcome, written, packOf}
 use Rattle.audit.specs.Audit as audit
 use Rattle.custody.specs.Ledger.{placedIn, boxOf, newBoxes, places, Ledger, nothing, afterPack, In, first, sameBox, takenOut, afterReturn}
 use Rattle.custody.specs.Run.{Hall, hallOf, Run, fresh, packs, returns, auditAt, AuditAccepts}
@@ -142,10 +142,10 @@ unfolding lowest anyBelow picked sumTo tab removeAt put sectionAt spansMeet over
     chamberOf pushChecks returnChecks returned returnOf
     rectAt badRect repeatedId sameGroup leadOf isLead share groupVolume keyWith comesBefore earlier groupOrder groupsOf
     placeFrom placeOne placeAll placeGroup order.goesBefore order.tried order.trialOrder seated
-    rectsAt trialIn firstWhole changed packGroups rectLengthsOk noRoom packChecks start packing binsWith written packOf
+    rectsAt trialIn firstWhole changed packGroups rectLengthsOk noRoom rectChecks packChecks start packing binsWith written packOf
     placedIn boxOf newBoxes places afterPack sameBox takenOut afterReturn
     lentChambers lentStore three faulty two returnedBox chamberWith free₀ free₁ free₄ free₅ records₁ records₅
-    auditAt audit.boxesOf audit.auditBoxes audit.lengthsOk audit.spanOutside audit.outside audit.sharesEarlier audit.auditReply audit.shownOf
+    auditAt audit.boxesOf audit.auditBoxes audit.lengthsOk audit.sharesEarlier audit.auditReply audit.shownOf
     audit.auditOf ledger₁ ledger₂ ledger₃ ledger₄ ledger₅
 jobs =
     record {

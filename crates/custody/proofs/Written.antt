@@ -10,11 +10,9 @@ use Rattle.lists.specs.Sort.{Each}
 use Rattle.lists.proofs.Sorts.{each-at}
 use Rattle.lists.proofs.Tabs.{length-tab, getD-tab}
 use Rattle.bin_section.specs.declared.section.BinSection.{BinSection}
-use Rattle.bin_section.specs.declared.width_height_depth.WidthHeightDepth.{WidthHeightDepth}
 use Rattle.bin_section.specs.Section.{zeroSection, sectionAt}
 use Rattle.bin_section.specs.Sides.{sides}
 use Rattle.cells.specs.Whole.{Inside}
-use Rattle.sections.proofs.Bounding as bounding
 use Rattle.sections.proofs.Chunks.{length-joined, length-joined-tab}
 use Rattle.sections.proofs.Reading.{getD-sections}
 use Rattle.target_bin.specs.declared.chamber.TargetBin.{TargetBin}
@@ -25,26 +23,6 @@ use Rattle.target_bin.proofs.Tables.{count-tableOf, chamberAt-tableOf}
 use Rattle.target_bin.proofs.Parts.{length-partOf, sections-partOf, partAt-storeOf, store-decoded, getD-freeOf}
 use Rattle.target_bin.proofs.Passing.{Sound}
 use Rattle.rectangle_pack.specs.Pack.{binsWith}
-
--- "lies inside with no zero side", in the words of the checks
-pub checked-inside : (whd : WidthHeightDepth) (b : BinSection) → Inside whd b → bounding.Inside whd b
-checked-inside whd b p =
-    record {
-      alongX = record { some = p .wide; end = p .right };
-      alongY = record { some = p .tall; end = p .above };
-      alongZ = record { some = p .deep; end = p .behind };
-    }
-
-pub inside-checked : (whd : WidthHeightDepth) (b : BinSection) → bounding.Inside whd b → Inside whd b
-inside-checked whd b p =
-    record {
-      wide = p .alongX .some;
-      tall = p .alongY .some;
-      deep = p .alongZ .some;
-      right = p .alongX .end;
-      above = p .alongY .end;
-      behind = p .alongZ .end;
-    }
 
 module _
     (chambers store : List ℕ) (frees : List (List BinSection)) (sound : Sound chambers store) (many : length frees ≡ chamberCount chambers)
@@ -119,6 +97,6 @@ module _
             inside = λ i j h l.
                 let b : i < chamberCount chambers = omega (arith, written-count) in
                 let c : j < length (getD frees i []) = omega (arith, count-at i b) in
-                rw (written-at i b, written-section i j b c) (checked-inside (chamberAt chambers i .whd) (getD (getD frees i []) j zeroSection) (each-at (inside i b) j zeroSection c));
+                rw (written-at i b, written-section i j b c) (each-at (inside i b) j zeroSection c);
           };
         }
