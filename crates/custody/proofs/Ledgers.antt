@@ -17,16 +17,13 @@ use Rattle.bin_section.specs.Section.{section}
 use Rattle.sections.proofs.Chunks.{joined-part}
 use Rattle.grouped_rects_to_place.specs.Rect.{rectAt}
 use Rattle.rectangle_pack.specs.Seats.{Seat, unplaced, seat, seatWords, placementsOf}
+use Rattle.rectangle_pack.proofs.Tables.{seat-long}
 use Rattle.rectangle_pack.specs.Pack.{rectCount}
 use Rattle.custody.specs.Ledger.{placedIn, boxOf, newBoxes, In, first, later, sameBox, takenOut}
 use Rattle.custody.proofs.Totals.{total, total-picked}
 use Rattle.custody.proofs.Seating.{seatWeight, seatTotal}
 
 -- ---- a pack
-
-seat-long : (s : Seat) → length (seatWords s) ≡ 5
-seat-long unplaced = refl
-seat-long (seat id l) = refl
 
 -- the words of a placement record
 word-at : (seats : List Seat) (i j : ℕ) → i < length seats → j < 5 → getD (placementsOf seats) (i * 5 + j) 0 ≡ getD (seatWords (getD seats i unplaced)) j 0

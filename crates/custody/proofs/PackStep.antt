@@ -1,13 +1,13 @@
 -- A pack leaves every chamber whole: what was free is free still or lies in a box that its records place there; a pack refused by a
 -- check changes nothing.
-use Prim.Native.Nat.{ℕ, _+_, _*_, _≤_, _<_}
+use Prim.Native.Nat.{ℕ, _+_, _≤_, _<_}
 use mathlib.Core.Path.{_≡_, refl, sym, ap, _∙_, subst}
 use mathlib.Core.Logic.{_⊎_, inl, inr}
-use mathlib.Core.List.{List, [], _∷_, _++_}
+use mathlib.Core.List.{List, [], _++_}
 use mathlib.Core.Bool.{Bool, true, false, _&&_, not, cond}
 use native.Mathlib.Decide.{ℕ-discrete}
 use native.Mathlib.Omega.{arith}
-use borrow.Author.Tests.{ltb-true, ltb-false, ne-eqb, not-false}
+use borrow.Author.Tests.{ltb-true, ne-eqb, not-false}
 use lib.Dec.{ltb, leb, eqb}
 use lib.ListN.{length, getD, replicate, getD-replicate}
 use Rattle.lists.specs.Sort.{Each, none, also}
@@ -30,7 +30,7 @@ use Rattle.sections.proofs.Reading.{length-sections}
 use Rattle.target_bin.specs.Store.{partAt, freeAt, freeOf, storeOf}
 use Rattle.target_bin.specs.Checks.{check1, check2, check3}
 use Rattle.target_bin.proofs.Ordering as ordering
-use Rattle.target_bin.proofs.Passing.{SidesInRange, no-fault}
+use Rattle.target_bin.proofs.Passing.{SidesInRange}
 use Rattle.target_bin.proofs.Parts.{length-freeOf, getD-freeOf}
 use Rattle.grouped_rects_to_place.specs.declared.rect_to_place.RectToPlace.{RectToPlace}
 use Rattle.grouped_rects_to_place.specs.Rect.{rectAt}
@@ -40,6 +40,8 @@ use Rattle.rectangle_pack.specs.Order.{tried, trialOrder}
 use Rattle.rectangle_pack.specs.Seats.{Seat, unplaced, placementsOf}
 use Rattle.rectangle_pack.specs.Packing.{state, Ended}
 use Rattle.rectangle_pack.specs.Pack.{rectCount, rectLengthsOk, noRoom, rectChecks, packChecks, start, packing, binsWith, PackOutcome, packOutcome, written, packOf}
+use Rattle.rectangle_pack.proofs.Checked.{no-bad, passed}
+use Rattle.rectangle_pack.proofs.Ending.{pack-refused, pack-done}
 use Rattle.custody.specs.Ledger.{newBoxes, places, afterPack}
 use Rattle.custody.specs.Run.{Hall, hallOf, packed, SameChambers, placedAt}
 use Rattle.custody.proofs.Between.{Good, good-ledger, same-chambers, one-index}
@@ -80,10 +82,6 @@ rect-sided : (r : ℕ → RectToPlace) (n : ℕ) → None n (badRect r) → (i :
 unfolding badRect
 rect-sided r n p i h = sides-some (r i .whd) (not-false (sidesOk (r i .whd)) (p .at i h))
 
-room-left : (chambers : List ℕ) (n m : ℕ) → None m (noRoom chambers n) → (k : ℕ) → k < m → chamberAt chambers k .count + 2 * n ≤ 128
-unfolding noRoom
-room-left chambers n m p k h = ltb-false 128 (chamberAt chambers k .count + 2 * n) (p .at k h)
-
 chamber-small : (whd : WidthHeightDepth) → SidesInRange whd → Small whd
 chamber-small whd p = record { width-small = p .width-ok .most; height-small = p .height-ok .most; depth-small = p .depth-ok .most }
 
@@ -120,32 +118,16 @@ module _ (f : Hall) (good : Good f) (rects placements : List ℕ) where
   abbrev whds : ℕ → WidthHeightDepth
   whds = λ k. chamberAt c k .whd
 
-  abbrev row : List Check
-  row =
-      once 1 (not (rectLengthsOk rects placements))
-      ∷ check1 c s
-      ∷ check2 c
-      ∷ check3 c s
-      ∷ each 4 n (badRect r)
-      ∷ each 5 n (repeatedId r)
-      ∷ each 6 m (noRoom c n)
-      ∷ []
+  -- the answer of the checks, 0 where all pass
+  abbrev checked : Reply
+  checked = ordering.answerOf (packChecks c s rects placements) (reply 0 0)
 
-  numbered : ordering.Numbered row
-  numbered =
-      ordering.more (λ (e : _≡_ {A = ℕ} 1 0). omega arith) (ordering.more (λ (e : _≡_ {A = ℕ} 1 0). omega arith) (ordering.more (λ (e : _≡_ {A = ℕ} 2 0). omega arith)
-      (ordering.more (λ (e : _≡_ {A = ℕ} 3 0). omega arith) (ordering.more (λ (e : _≡_ {A = ℕ} 4 0). omega arith)
-      (ordering.more (λ (e : _≡_ {A = ℕ} 5 0). omega arith) (ordering.more (λ (e : _≡_ {A = ℕ} 6 0). omega arith) ordering.none))))))
-
-  low : Each (λ x. x .answer .number < 7) row
+  low : Each (λ x. x .answer .number < 7) (packChecks c s rects placements)
+  unfolding packChecks rectChecks
   low =
       also {x = once 1 (not (rectLengthsOk rects placements))} (omega arith) (also {x = check1 c s} (omega arith) (also {x = check2 c} (omega arith)
       (also {x = check3 c s} (omega arith) (also {x = each 4 n (badRect r)} (omega arith)
       (also {x = each 5 n (repeatedId r)} (omega arith) (also {x = each 6 m (noRoom c n)} (omega arith) none))))))
-
-  row-of : packOf c s rects placements ≡ inOrder row (λ a. packOutcome a c s placements) (written c (packing c s rects))
-  unfolding packOf packChecks rectChecks
-  row-of = refl
 
   -- ---- refused by a check
 
@@ -172,19 +154,7 @@ module _ (f : Hall) (good : Good f) (rects placements : List ℕ) where
 
   -- ---- past the checks
 
-  module _ (pass : ordering.AllPass row) where
-    none4 : None n (badRect r)
-    none4 = go pass
-      where
-        go : ordering.AllPass row → None n (badRect r)
-        go (ordering.and p0 (ordering.and p1 (ordering.and p2 (ordering.and p3 (ordering.and p4 rest))))) = no-fault n (badRect r) p4
-
-    none6 : None m (noRoom c n)
-    none6 = go pass
-      where
-        go : ordering.AllPass row → None m (noRoom c n)
-        go (ordering.and p0 (ordering.and p1 (ordering.and p2 (ordering.and p3 (ordering.and p4 (ordering.and p5 (ordering.and p6 rest))))))) = no-fault m (noRoom c n) p6
-
+  module _ (pass : ordering.answerOf (packChecks c s rects placements) (reply 0 0) .number ≡ 0) where
     started : Conserved m n ids whds r (freeOf c s) (state (freeOf c s) (replicate n unplaced))
     started =
         start-conserved m n ids whds r (freeOf c s) index small sided (length-freeOf c s)
@@ -197,12 +167,12 @@ module _ (f : Hall) (good : Good f) (rects placements : List ℕ) where
         small k h = chamber-small (whds k) (good .sound-tables .shapes-ok .sides k h)
 
         sided : (i : ℕ) → i < n → Sided (record { whd = r i .whd })
-        sided = rect-sided r n none4
+        sided = rect-sided r n (no-bad c s rects placements pass)
 
-    finished : Finished m n ids whds r (freeOf c s) (one-index c s (good .sound-tables)) (λ k h. chamber-small (whds k) (good .sound-tables .shapes-ok .sides k h)) (rect-sided r n none4) (packing c s rects)
+    finished : Finished m n ids whds r (freeOf c s) (one-index c s (good .sound-tables)) (λ k h. chamber-small (whds k) (good .sound-tables .shapes-ok .sides k h)) (rect-sided r n (no-bad c s rects placements pass)) (packing c s rects)
     unfolding packing start
     finished =
-        groups-conserved m n ids whds r (freeOf c s) (one-index c s (good .sound-tables)) (λ k h. chamber-small (whds k) (good .sound-tables .shapes-ok .sides k h)) (rect-sided r n none4)
+        groups-conserved m n ids whds r (freeOf c s) (one-index c s (good .sound-tables)) (λ k h. chamber-small (whds k) (good .sound-tables .shapes-ok .sides k h)) (rect-sided r n (no-bad c s rects placements pass))
         (trialOrder c) (groupsOf n r) (state (freeOf c s) (replicate n unplaced)) (order-low c) started
         (record { waiting = all-waiting n (groups-below r n); distinct = groups-distinct r n; apart = groups-disjoint r n })
 
@@ -219,7 +189,7 @@ module _ (f : Hall) (good : Good f) (rects placements : List ℕ) where
     k₀ = finished .conserved
 
     few : (k : ℕ) → k < m → length (getD frees k []) ≤ 128
-    few k h = omega (arith, k₀ .room k h, seats-few r n (ids k) seats, room-left c n m none6 k h, free-long k h)
+    few k h = omega (arith, k₀ .room k h, seats-few r n (ids k) seats, passed c s rects placements pass .ready .room k h, free-long k h)
       where
         free-long : (k : ℕ) → k < m → length (getD (freeOf c s) k []) ≡ chamberAt c k .count
         free-long k h = ap length (getD-freeOf c s k [] h) ∙ length-freeAt c s k
@@ -269,19 +239,15 @@ module _ (f : Hall) (good : Good f) (rects placements : List ℕ) where
   -- either way
   data Outcomes : Type 0 where
     unchanged : (a : Reply) → packOf c s rects placements ≡ packOutcome a c s placements → places a ≡ false → Outcomes
-    changed : ordering.AllPass row → packOf c s rects placements ≡ written c (packing c s rects) → Outcomes
+    changed : ordering.answerOf (packChecks c s rects placements) (reply 0 0) .number ≡ 0 → packOf c s rects placements ≡ written c (packing c s rects) → Outcomes
 
   outcomes : Outcomes
-  outcomes = go (ℕ-discrete (ordering.answerOf row (reply 0 0) .number) 0)
+  outcomes = go (ℕ-discrete (checked .number) 0)
     where
-      go : Dec (ordering.answerOf row (reply 0 0) .number ≡ 0) → Outcomes
+      go : Dec (checked .number ≡ 0) → Outcomes
       go (no ne) =
-          unchanged (ordering.answerOf row (reply 0 0))
-          (row-of ∙ ordering.alone-fires (λ b. packOutcome b c s placements) (written c (packing c s rects)) (reply 0 0) row refl ne)
-          (places-none (ordering.answerOf row (reply 0 0)) ne (low-answer (reply 0 0) low (omega arith)))
-      go (yes z) =
-          changed (ordering.all-pass row (reply 0 0) numbered z)
-          (row-of ∙ ordering.alone-passes (λ a. packOutcome a c s placements) (written c (packing c s rects)) (reply 0 0) row numbered z)
+          unchanged checked (sym (pack-refused c s rects placements checked refl ne)) (places-none checked ne (low-answer (reply 0 0) low (omega arith)))
+      go (yes z) = changed z (sym (pack-done c s rects placements checked refl z (written c (packing c s rects)) refl))
 
   pub pack-good : Good (packed f rects placements)
   pack-good = go outcomes

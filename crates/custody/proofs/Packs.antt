@@ -1,5 +1,5 @@
 -- The packing of the groups keeps each cell: in each chamber what was free is free still, or lies in the box of a rectangle seated there.
-use Prim.Native.Nat.{ℕ, suc, _+_, _*_, _≤_, _<_}
+use Prim.Native.Nat.{ℕ, _+_, _*_, _≤_, _<_}
 use mathlib.Core.Path.{_≡_, refl, sym, ap, _∙_}
 use mathlib.Core.Logic.{_⊎_, inl, inr}
 use mathlib.Core.List.{List, [], _∷_}
@@ -27,9 +27,12 @@ use Rattle.placing.specs.Rules.{Trial, stops, whole, placeGroup}
 use Rattle.try_place.specs.declared.packed_location.PackedLocation.{PackedLocation}
 use Rattle.rectangle_pack.specs.Seats.{Seat, unplaced, seated}
 use Rattle.rectangle_pack.specs.Packing.{State, state, rectsAt, trialIn, isWhole, firstWhole, changedBy, changed, Ended, ended, packGroups}
-use Rattle.custody.proofs.Placements.{Sided, boxesAt, Kept, group-placing, placing-long, group-kept}
+use Rattle.rectangle_pack.proofs.Placings.{group-placings}
+use Rattle.rectangle_pack.proofs.Room.{group-long, rects-long}
+use Rattle.rectangle_pack.proofs.Tables.{length-seated}
+use Rattle.custody.proofs.Placements.{Sided, boxesAt, Kept, group-kept}
 use Rattle.custody.proofs.Totals.{total, held-total, strays, none-strays}
-use Rattle.custody.proofs.Seating.{seatWeight, seatTotal, no-weight, Waiting, Distinct, Disjoint, seated-long, seated-here, seated-elsewhere, seated-others}
+use Rattle.custody.proofs.Seating.{seatWeight, seatTotal, no-weight, Waiting, Distinct, Disjoint, seated-here, seated-elsewhere, seated-others}
 
 total-ones : (bs : List BinSection) → total (λ b. 1) bs ≡ length bs
 unfolding total
@@ -83,11 +86,6 @@ module _
   group-sided seats none = none
   group-sided seats (also {x = i} p ps) = also (sided i (p .below)) (group-sided seats ps)
 
-  length-rects : (h : List ℕ) → length (rectsAt r h) ≡ length h
-  unfolding rectsAt
-  length-rects [] = refl
-  length-rects (i ∷ is) = ap suc (length-rects is)
-
   module _
       (s : State) (g : List ℕ) (k : ℕ) (ls : List PackedLocation) (free′ : List BinSection)
       (p : Conserved m n ids whds r frees₀ s) (low : k < m) (d : Distinct g) (ws : Each (Waiting n (s .seats)) g)
@@ -97,10 +95,10 @@ module _
     placing = e
 
     kept : Kept (whds k) (getD (s .frees) k []) (boxesAt (rectsAt r g) ls) free′
-    kept = group-kept (whds k) (small k low) (p .free-in k low) (group-sided (s .seats) ws) (group-placing (getD (s .frees) k []) (rectsAt r g) ls free′ placing)
+    kept = group-kept (whds k) (small k low) (p .free-in k low) (group-sided (s .seats) ws) (group-placings (getD (s .frees) k []) (rectsAt r g) ls free′ placing)
 
     same-length : length ls ≡ length g
-    same-length = placing-long (group-placing (getD (s .frees) k []) (rectsAt r g) ls free′ placing) ∙ length-rects g
+    same-length = group-long (getD (s .frees) k []) (rectsAt r g) ls free′ placing ∙ rects-long r g
 
     free-here : getD (set (s .frees) k free′) k [] ≡ free′
     free-here = getD-set-same (s .frees) k free′ [] (omega (arith, p .frees-long))
@@ -153,7 +151,7 @@ module _
     group-conserved =
         record {
           frees-long = length-set (s .frees) k free′ ∙ p .frees-long;
-          seats-long = seated-long r n (ids k) g ls (s .seats) ∙ p .seats-long;
+          seats-long = length-seated (ids k) g ls (s .seats) ∙ p .seats-long;
           cells = λ j h. cells-at j h (ℕ-discrete j k);
           placed-in = λ j h. placed-at j h (ℕ-discrete j k);
           free-in = λ j h. free-at j h (ℕ-discrete j k);

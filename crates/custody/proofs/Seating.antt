@@ -89,12 +89,6 @@ module _ (r : ℕ → RectToPlace) (n : ℕ) where
   unfolding seatWeight
   seat-elsewhere w at id whd l ne = cond-no (w (boxAtLocation l whd)) 0 (eqb id at) (ne-eqb id at ne)
 
-  pub seated-long : (id : ℕ) (g : List ℕ) (ls : List PackedLocation) (seats : List Seat) → length (seated id g ls seats) ≡ length seats
-  unfolding seated
-  seated-long id [] ls seats = refl
-  seated-long id (i ∷ is) [] seats = refl
-  seated-long id (i ∷ is) (l ∷ ls) seats = seated-long id is ls (set seats i (seat id l)) ∙ length-set seats i (seat id l)
-
   -- a group takes its seats in the chamber of that id: its boxes are added there
   pub seated-here :
       (w : BinSection → ℕ) (id : ℕ) {g : List ℕ} (ls : List PackedLocation) (seats : List Seat)
