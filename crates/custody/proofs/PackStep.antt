@@ -1,13 +1,13 @@
 -- A pack leaves every chamber whole: what was free is free still or lies in a box that its records place there; a pack refused by a
 -- check changes nothing.
-use Prim.Native.Nat.{ℕ, _+_, _≤_, _<_}
+use Prim.Native.Nat.{ℕ, _+_, _*_, _≤_, _<_}
 use mathlib.Core.Path.{_≡_, refl, sym, ap, _∙_, subst}
 use mathlib.Core.Logic.{_⊎_, inl, inr}
 use mathlib.Core.List.{List, [], _++_}
 use mathlib.Core.Bool.{Bool, true, false, _&&_, not, cond}
 use native.Mathlib.Decide.{ℕ-discrete}
 use native.Mathlib.Omega.{arith}
-use borrow.Author.Tests.{ltb-true, ne-eqb, not-false}
+use borrow.Author.Tests.{ltb-true, ne-eqb, not-false, le-ltb}
 use lib.Dec.{ltb, leb, eqb}
 use lib.ListN.{length, getD, replicate, getD-replicate}
 use Rattle.lists.specs.Sort.{Each, none, also}
@@ -26,8 +26,7 @@ use Rattle.cells.proofs.Insides.{inside-first, inside-second, inside-both}
 use Rattle.placing.proofs.Reaches.{each-tab}
 use Rattle.target_bin.specs.declared.chamber.TargetBin.{TargetBin}
 use Rattle.target_bin.specs.Chambers.{chamberAt, chamberCount, tableOf}
-use Rattle.sections.proofs.Reading.{length-sections}
-use Rattle.target_bin.specs.Store.{partAt, freeAt, freeOf, storeOf}
+use Rattle.target_bin.specs.Store.{freeAt, freeOf, storeOf}
 use Rattle.target_bin.specs.Checks.{check1, check2, check3}
 use Rattle.target_bin.proofs.Ordering as ordering
 use Rattle.target_bin.proofs.Passing.{SidesInRange}
@@ -42,6 +41,7 @@ use Rattle.rectangle_pack.specs.Packing.{state, Ended}
 use Rattle.rectangle_pack.specs.Pack.{rectCount, rectLengthsOk, noRoom, rectChecks, packChecks, start, packing, binsWith, PackOutcome, packOutcome, written, packOf}
 use Rattle.rectangle_pack.proofs.Checked.{no-bad, passed}
 use Rattle.rectangle_pack.proofs.Ending.{pack-refused, pack-done}
+use Rattle.rectangle_pack.proofs.Room.{never-overflows}
 use Rattle.custody.specs.Ledger.{newBoxes, places, afterPack}
 use Rattle.custody.specs.Run.{Hall, hallOf, packed, SameChambers, placedAt}
 use Rattle.custody.proofs.Between.{Good, good-ledger, same-chambers, one-index}
@@ -49,7 +49,7 @@ use Rattle.custody.proofs.Groups.{groups-disjoint, groups-distinct, gro
 use Rattle.custody.proofs.Ledgers.{new-total}
 use Rattle.custody.proofs.Packs.{Conserved, Finished, start-conserved, groups-conserved}
 use Rattle.custody.proofs.Placements.{Sided, each-inside, inside-each}
-use Rattle.custody.proofs.Seating.{seatTotal, Waiting, seats-few}
+use Rattle.custody.proofs.Seating.{seatTotal, Waiting}
 use Rattle.custody.proofs.Totals.{total, held-total, strays, all-inside}
 use Rattle.custody.proofs.Written.{written-count, written-at, written-free, written-sound}
 
@@ -85,9 +85,9 @@ rect-sided r n p i h = sides-some (r i .whd) (not-false (sidesOk (r i .whd)) (p 
 chamber-small : (whd : WidthHeightDepth) → SidesInRange whd → Small whd
 chamber-small whd p = record { width-small = p .width-ok .most; height-small = p .height-ok .most; depth-small = p .depth-ok .most }
 
-length-freeAt : (chambers store : List ℕ) (k : ℕ) → length (freeAt chambers store k) ≡ chamberAt chambers k .count
-unfolding freeAt
-length-freeAt chambers store k = length-sections (partAt store k) (chamberAt chambers k .count)
+not-full : (chambers : List ℕ) (n k : ℕ) → chamberAt chambers k .count + 2 * n ≤ 128 → noRoom chambers n k ≡ false
+unfolding noRoom
+not-full chambers n k h = le-ltb 128 (chamberAt chambers k .count + 2 * n) h
 
 order-low : (chambers : List ℕ) → Each (λ k. k < chamberCount chambers) (trialOrder chambers)
 unfolding trialOrder
@@ -189,10 +189,10 @@ module _ (f : Hall) (good : Good f) (rects placements : List ℕ) where
     k₀ = finished .conserved
 
     few : (k : ℕ) → k < m → length (getD frees k []) ≤ 128
-    few k h = omega (arith, k₀ .room k h, seats-few r n (ids k) seats, passed c s rects placements pass .ready .room k h, free-long k h)
+    few k h = never-overflows c s rects (passed c s rects placements pass .rects-good .few) room k
       where
-        free-long : (k : ℕ) → k < m → length (getD (freeOf c s) k []) ≡ chamberAt c k .count
-        free-long k h = ap length (getD-freeOf c s k [] h) ∙ length-freeAt c s k
+        room : None m (noRoom c n)
+        room = record { at = λ j b. not-full c n j (passed c s rects placements pass .ready .room j b) }
 
     new-weight : (w : BinSection → ℕ) (k : ℕ) → total w (newBoxes rects (placementsOf seats) (ids k)) ≡ seatTotal w r n (ids k) seats
     new-weight w k = new-total w rects (ids k) seats (k₀ .seats-long)

@@ -1,5 +1,5 @@
 -- The packing of the groups keeps each cell: in each chamber what was free is free still, or lies in the box of a rectangle seated there.
-use Prim.Native.Nat.{ℕ, _+_, _*_, _≤_, _<_}
+use Prim.Native.Nat.{ℕ, _+_, _<_}
 use mathlib.Core.Path.{_≡_, refl, sym, ap, _∙_}
 use mathlib.Core.Logic.{_⊎_, inl, inr}
 use mathlib.Core.List.{List, [], _∷_}
@@ -34,11 +34,6 @@ use Rattle.custody.proofs.Placements.{Sided, boxesAt, Kept, group-kept}
 use Rattle.custody.proofs.Totals.{total, held-total, strays, none-strays}
 use Rattle.custody.proofs.Seating.{seatWeight, seatTotal, no-weight, Waiting, Distinct, Disjoint, seated-here, seated-elsewhere, seated-others}
 
-total-ones : (bs : List BinSection) → total (λ b. 1) bs ≡ length bs
-unfolding total
-total-ones [] = refl
-total-ones (b ∷ bs) = omega (arith, total-ones bs)
-
 -- the groups that have not been tried: all of them wait, and no rectangle stands twice
 pub record Ready (n : ℕ) (seats : List Seat) (groups : List (List ℕ)) : Type 0 where
   pub waiting : Each (Each (Waiting n seats)) groups
@@ -52,7 +47,6 @@ pub record Conserved (m n : ℕ) (ids : ℕ → ℕ) (whds : ℕ → WidthHeight
   pub cells : (k : ℕ) → k < m → (cx cy cz : ℕ) → seatTotal (λ b. has b cx cy cz) r n (ids k) (s .seats) + held (getD (s .frees) k []) cx cy cz ≡ held (getD frees₀ k []) cx cy cz
   pub placed-in : (k : ℕ) → k < m → seatTotal (strays (whds k)) r n (ids k) (s .seats) ≡ 0
   pub free-in : (k : ℕ) → k < m → Each (Inside (whds k)) (getD (s .frees) k [])
-  pub room : (k : ℕ) → k < m → length (getD (s .frees) k []) ≤ length (getD frees₀ k []) + 2 * seatTotal (λ b. 1) r n (ids k) (s .seats)
 
 module _
     (m n : ℕ) (ids : ℕ → ℕ) (whds : ℕ → WidthHeightDepth) (r : ℕ → RectToPlace) (frees₀ : List (List BinSection))
@@ -76,7 +70,6 @@ module _
         cells = λ k h cx cy cz. omega (arith, empty-total (λ b. has b cx cy cz) (ids k));
         placed-in = λ k h. empty-total (strays (whds k)) (ids k);
         free-in = ins;
-        room = λ k h. omega arith;
       }
 
   -- ---- one group is served in chamber k
@@ -134,19 +127,6 @@ module _
     free-at j h (yes q) = rw (q, free-here) (kept .free-in)
     free-at j h (no ne) = rw (free-there j ne) (p .free-in j h)
 
-    room-at : (j : ℕ) → j < m → Dec (j ≡ k) → length (getD (set (s .frees) k free′) j []) ≤ length (getD frees₀ j []) + 2 * seatTotal (λ b. 1) r n (ids j) (seated (ids k) g ls (s .seats))
-    room-at j h (yes q) =
-        rw q
-        (omega (
-          arith,
-          added (λ b. 1),
-          total-ones (boxesAt (rectsAt r g) ls),
-          kept .room,
-          p .room k low,
-          ap length free-here,
-        ))
-    room-at j h (no ne) = omega (arith, unmoved (λ b. 1) j h ne, p .room j h, ap length (free-there j ne))
-
     group-conserved : Conserved m n ids whds r frees₀ (state (set (s .frees) k free′) (seated (ids k) g ls (s .seats)))
     group-conserved =
         record {
@@ -155,7 +135,6 @@ module _
           cells = λ j h. cells-at j h (ℕ-discrete j k);
           placed-in = λ j h. placed-at j h (ℕ-discrete j k);
           free-in = λ j h. free-at j h (ℕ-discrete j k);
-          room = λ j h. room-at j h (ℕ-discrete j k);
         }
 
   -- ---- all groups

@@ -1,5 +1,5 @@
 -- What was free before a placement is free after it or lies in the rectangle placed: for one rectangle, and for a group in one chamber.
-use Prim.Native.Nat.{ℕ, suc, _+_, _*_, _≤_, _<_}
+use Prim.Native.Nat.{ℕ, suc, _+_, _<_}
 use mathlib.Core.Path.{_≡_, sym, ap, subst}
 use mathlib.Core.List.{List, [], _∷_}
 use native.Mathlib.Omega.{arith}
@@ -26,7 +26,6 @@ use Rattle.placing.specs.Rules.{placed, placeOne}
 use Rattle.rectangle_pack.specs.Promises.{Fits}
 use Rattle.rectangle_pack.proofs.Left.{one-left, inside-reachable, inside-passes}
 use Rattle.rectangle_pack.proofs.Placings.{fit-is, PlacedAt, placed-at, Placings, no-more, then}
-use Rattle.rectangle_pack.proofs.Room.{one-room}
 use Rattle.custody.proofs.Cut.{placedBox, row-cut, held-appended}
 
 -- a rectangle has no zero side
@@ -56,7 +55,6 @@ pub record Kept (whd : WidthHeightDepth) (free : List BinSection) (boxes free′
   pub cells : (cx cy cz : ℕ) → held boxes cx cy cz + held free′ cx cy cz ≡ held free cx cy cz
   pub placed-in : Each (Inside whd) boxes
   pub free-in : Each (Inside whd) free′
-  pub room : length free′ ≤ length free + 2 * length boxes
 
 module _ (whd : WidthHeightDepth) (small : Small whd) where
   pub one-kept :
@@ -90,7 +88,6 @@ module _ (whd : WidthHeightDepth) (small : Small whd) where
                 );
             placed-in = also {x = boxAtLocation l (r .whd)} (subst (λ (b : BinSection). Inside whd b) box in-box) none;
             free-in = one-left (Inside whd) (inside-reachable whd small) (inside-passes whd) free r l free′ e ins;
-            room = omega (arith, one-room free r l free′ e);
           }
 
 -- ---- a group in one chamber
@@ -110,7 +107,7 @@ module _ (whd : WidthHeightDepth) (small : Small whd) where
       → Kept whd free (boxesAt rs ls) free′
   unfolding boxesAt held
   group-kept ins sided (no-more {free}) =
-      record { cells = λ cx cy cz. omega arith; placed-in = none; free-in = ins; room = omega arith }
+      record { cells = λ cx cy cz. omega arith; placed-in = none; free-in = ins }
   group-kept ins (also s ss) (then {free} {mid} {free′} {r} {rs} {l} {ls} e p) =
       let one = one-kept whd small free r l mid ins s e in
       let rest = group-kept (one .free-in) ss p in
@@ -118,5 +115,4 @@ module _ (whd : WidthHeightDepth) (small : Small whd) where
         cells = λ cx cy cz. omega (arith, one .cells cx cy cz, rest .cells cx cy cz);
         placed-in = each-append (one .placed-in) (rest .placed-in);
         free-in = rest .free-in;
-        room = omega (arith, one .room, rest .room);
       }
