@@ -1,18 +1,17 @@
 -- What holds between two jobs of a run.
 use Prim.Native.Nat.{ℕ, zero, suc, _+_, _<_}
-use mathlib.Core.Path.{_≡_}
+use mathlib.Core.Path.{_≡_, refl, _∙_}
 use mathlib.Core.Logic.{_⊎_, inl, inr}
 use mathlib.Core.List.{List, _++_}
 use native.Mathlib.Decide.{decLt}
 use native.Mathlib.Nat.{eq-or-lt-of-le, le-of-suc-le-suc, not-suc-le-zero}
 use native.Mathlib.Omega.{arith}
-use Rattle.bin_section.specs.Replies.{each}
 use Rattle.cells.specs.Whole.{Whole}
 use Rattle.target_bin.specs.Chambers.{chamberAt, chamberCount}
 use Rattle.target_bin.specs.Store.{freeAt}
 use Rattle.target_bin.proofs.Passing.{Sound}
 use Rattle.custody.specs.Ledger.{Ledger}
-use Rattle.custody.specs.Run.{Hall, hallOf, placedAt}
+use Rattle.custody.specs.Run.{Hall, hallOf, SameChambers, placedAt}
 
 -- what holds between two jobs: the tables pass checks 1 to 3, and each chamber is whole
 pub record Good (f : Hall) : Type 0 where
@@ -22,6 +21,18 @@ pub record Good (f : Hall) : Type 0 where
 -- another ledger that says the same
 pub good-ledger : (chambers store : List ℕ) (a b : Ledger) → ((id : ℕ) → b id ≡ a id) → Good (hallOf chambers store a) → Good (hallOf chambers store b)
 good-ledger chambers store a b e g = record { sound-tables = g .sound-tables; whole = λ k h. rw (e (chamberAt chambers k .id)) (g .whole k h) }
+
+-- the same chambers, one table after the other
+pub same-chambers : (a : List ℕ) → SameChambers a a
+same-chambers a = record { many = refl; ids = λ k h. refl; sides = λ k h. refl }
+
+pub same-then : {a b d : List ℕ} → SameChambers a b → SameChambers b d → SameChambers a d
+same-then p q =
+    record {
+      many = q .many ∙ p .many;
+      ids = λ k h. q .ids k (omega (arith, p .many)) ∙ p .ids k h;
+      sides = λ k h. q .sides k (omega (arith, p .many)) ∙ p .sides k h;
+    }
 
 -- ids rise, so an id names one index
 module _ (chambers store : List ℕ) (s : Sound chambers store) where

@@ -1,12 +1,12 @@
 -- The theorem: after any run of jobs the audit accepts each chamber.
 use Prim.Native.Nat.{ℕ, _+_, _*_, _/_, _%_, _≤_, _<_}
 use mathlib.Core.Path.{_≡_, refl, sym, ap, ap₂, _∙_, subst}
-use mathlib.Core.List.{List, [], _∷_, _++_}
-use mathlib.Core.Bool.{Bool, true, _&&_}
+use mathlib.Core.List.{List, [], _++_}
+use mathlib.Core.Bool.{true, _&&_}
 use native.Mathlib.Omega.{arith}
 use borrow.Author.Tests.{lt-ltb, le-leb, eq-eqb}
 use lib.Dec.{ltb, leb, eqb}
-use lib.ListN.{length, take, length-take}
+use lib.ListN.{length, take}
 use lib.Seq.{length-take-le, take-all, take-take}
 use Rattle.lists.proofs.Flags.{and-both}
 use Rattle.bin_section.specs.declared.reply.Reply.{Reply}
@@ -23,13 +23,13 @@ use Rattle.target_bin.specs.Chambers.{chamberAt, chamberCount}
 use Rattle.target_bin.specs.Store.{partAt, freeAt}
 use Rattle.target_bin.proofs.Parts.{length-partAt}
 use Rattle.target_bin.proofs.Passing.{InRange, SidesInRange}
-use Rattle.audit.specs.Audit.{boxesOf, auditBoxes, lengthsOk, auditReply, shownOf, audited, auditOf}
+use Rattle.audit.specs.Audit.{boxesOf, auditBoxes, lengthsOk, shownOf, audited, auditOf}
 use Rattle.audit.proofs.Means.{audit-means}
-use Rattle.custody.specs.Run.{Hall, Run, fresh, packs, returns, placedAt, freeCount, auditAt, AuditAccepts}
-use Rattle.custody.proofs.Between.{Good}
-use Rattle.custody.proofs.FreshStep.{fresh-good}
-use Rattle.custody.proofs.PackStep.{pack-good}
-use Rattle.custody.proofs.ReturnStep.{return-good}
+use Rattle.custody.specs.Run.{Hall, Run, fresh, packs, returns, begunWith, SameChambers, placedAt, freeCount, auditAt, AuditAccepts}
+use Rattle.custody.proofs.Between.{Good, same-then}
+use Rattle.custody.proofs.FreshStep.{fresh-good, fresh-same}
+use Rattle.custody.proofs.PackStep.{pack-good, pack-same}
+use Rattle.custody.proofs.ReturnStep.{return-good, return-same}
 
 -- ---- every step of a run
 
@@ -111,3 +111,18 @@ good-accepted f g =
 -- boxes."
 pub custody : {hall : Hall} → Run hall → AuditAccepts hall
 custody {hall} run = good-accepted hall (run-good run)
+
+-- said in cells, with no limit: "each lies inside with no zero side and each unit cell lies in exactly one box"
+pub every-cell :
+    {hall : Hall} → Run hall
+    → (k : ℕ)
+    → k < chamberCount (hall .chambers)
+    → Whole (chamberAt (hall .chambers) k .whd) (placedAt hall k ++ freeAt (hall .chambers) (hall .store) k)
+every-cell run k h = run-good run .whole k h
+
+-- the chambers are those that the run began with
+pub chambers-stay : {hall : Hall} (run : Run hall) → SameChambers (begunWith run) (hall .chambers)
+unfolding begunWith
+chambers-stay (fresh chambers store done) = fresh-same chambers store done
+chambers-stay (packs {hall} before rects placements) = same-then (chambers-stay before) (pack-same hall (run-good before) rects placements)
+chambers-stay (returns {hall} before id box there) = same-then (chambers-stay before) (return-same hall (run-good before) id box there)

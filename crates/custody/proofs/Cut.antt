@@ -1,15 +1,14 @@
 -- The geometric core: a section is the rectangle placed in it and the three that remain, cell by cell, in each of the six splits.
-use Prim.Native.Nat.{ℕ, zero, suc, _+_, _-_, _≤_, _<_}
+use Prim.Native.Nat.{ℕ, zero, suc, _+_, _-_, _<_}
 use mathlib.Core.Path.{_≡_, refl, sym, ap, _∙_}
-use mathlib.Core.List.{List, [], _∷_, _++_}
+use mathlib.Core.List.{List, [], _∷_}
 use mathlib.Core.Bool.{Bool, true, false, cond}
 use native.Mathlib.Omega.{arith}
 use borrow.Author.Tests.{eqb-true}
 use lib.Dec.{eqb}
-use lib.ListN.{length, getD, length-append}
+use lib.ListN.{getD}
 use Rattle.lists.specs.Sort.{sortBy, Permuted, empty, keep, swap, chain}
-use Rattle.lists.proofs.Sorts.{sort-permuted, length-sort}
-use Rattle.bin_section.specs.declared.width_height_depth.WidthHeightDepth.{WidthHeightDepth}
+use Rattle.lists.proofs.Sorts.{sort-permuted}
 use Rattle.bin_section.specs.declared.rect_to_insert.RectToInsert.{RectToInsert}
 use Rattle.bin_section.specs.declared.section.BinSection.{BinSection}
 use Rattle.bin_section.specs.Sides.{sides, volumeOf}
@@ -17,6 +16,7 @@ use Rattle.bin_section.specs.Section.{section}
 use Rattle.cells.proofs.Grid.{has, has-cut-x, has-cut-y, has-cut-z, has-none}
 use Rattle.cells.proofs.Held.{held, held-append}
 use Rattle.try_place.specs.Splits.{sixSplits}
+use Rattle.rectangle_pack.specs.Promises.{Fits}
 use Rattle.try_place.specs.Appended.{larger, keptOne, kept, appendedOf}
 
 -- a box cut in two along one axis, with the whole side named
@@ -29,12 +29,6 @@ module _ (x y z w h d s S cx cy cz : ℕ) where
 
   cut-z : d + s ≡ S → has (section x y z (sides w h S)) cx cy cz ≡ has (section x y z (sides w h d)) cx cy cz + has (section x y (z + d) (sides w h s)) cx cy cz
   cut-z e = sym (ap (λ (t : ℕ). has (section x y z (sides w h t)) cx cy cz) e) ∙ has-cut-z x y z w h d s cx cy cz
-
--- the rectangle is no wider, taller or deeper than the section
-pub record Fits (s : BinSection) (r : RectToInsert) : Type 0 where
-  pub wide : r .whd .width ≤ s .whd .width
-  pub tall : r .whd .height ≤ s .whd .height
-  pub deep : r .whd .depth ≤ s .whd .depth
 
 -- the rectangle where it is placed: at the section's origin
 abbrev pub placedBox : BinSection → RectToInsert → BinSection
@@ -124,18 +118,3 @@ pub held-appended : (t : List BinSection) (cx cy cz : ℕ) → held (appendedOf 
 unfolding appendedOf
 held-appended t cx cy cz =
     held-kept (sortBy larger t) cx cy cz ∙ sym (held-permuted (sort-permuted larger t) cx cy cz)
-
--- ---- no more are appended than there are
-
-length-kept : (bs : List BinSection) → length (kept bs) ≤ length bs
-unfolding kept keptOne
-length-kept [] = omega arith
-length-kept (b ∷ bs) = go (eqb (volumeOf (b .whd)) 0) (length-kept bs)
-  where
-    go : (t : Bool) → length (kept bs) ≤ length bs → length (cond t [] (b ∷ []) ++ kept bs) ≤ suc (length bs)
-    go true l = omega arith
-    go false l = omega arith
-
-pub length-appended : (t : List BinSection) → length (appendedOf t) ≤ length t
-unfolding appendedOf
-length-appended t = omega (arith, length-kept (sortBy larger t), length-sort larger t)

@@ -29,7 +29,7 @@ use Rattle.target_bin.proofs.Parts.{getD-freeOf}
 use Rattle.target_bin.proofs.Freshening.{wholeOf}
 use Rattle.target_bin.proofs.FreshModel.{fresh-count, fresh-at, fresh-free, fresh-sound}
 use Rattle.custody.specs.Ledger.{nothing}
-use Rattle.custody.specs.Run.{hallOf, freshHall}
+use Rattle.custody.specs.Run.{hallOf, freshHall, SameChambers}
 use Rattle.custody.proofs.Between.{Good}
 
 module _ (whd : WidthHeightDepth) (ok : SidesInRange whd) where
@@ -106,3 +106,12 @@ module _ (chambers store : List ℕ) (done : freshOf chambers store .reply .numb
   fresh-good =
       subst (λ (o : Outcome). Good (hallOf (o .chambers) (o .store) nothing)) (sym fresh-out)
       (record { sound-tables = fresh-sound chambers store (facts .0) (facts .1); whole = fresh-whole })
+
+  pub fresh-same : SameChambers chambers (freshOf chambers store .chambers)
+  fresh-same =
+      subst (λ (o : Outcome). SameChambers chambers (o .chambers)) (sym fresh-out)
+      (record {
+        many = fresh-count chambers;
+        ids = λ k h. ap (λ (b : TargetBin). b .id) (fresh-at chambers k h);
+        sides = λ k h. ap (λ (b : TargetBin). b .whd) (fresh-at chambers k h);
+      })

@@ -1,20 +1,15 @@
 -- Each rectangle stands in one group only, and once.
-use Prim.Native.Nat.{ℕ, zero, suc, _+_, _≤_, _<_}
-use mathlib.Core.Path.{_≡_, refl, sym, ap, _∙_, subst}
-use mathlib.Core.Logic.{_⊎_, inl, inr}
+use Prim.Native.Nat.{ℕ, _<_}
+use mathlib.Core.Path.{_≡_, sym, subst}
 use mathlib.Core.List.{List, [], _∷_, map}
-use mathlib.Core.Bool.{Bool, true, false, _&&_, _||_}
+use mathlib.Core.Bool.{true}
 use native.Mathlib.Omega.{arith}
-use borrow.Author.Tests.{ltb-true, eqb-true, lt-ltb, eq-eqb}
-use lib.Dec.{ltb, eqb}
-use Rattle.lists.specs.Lowest.{lowest}
-use Rattle.lists.specs.Sort.{Each, none, also, EachTwo, no-two, also-two, sortBy}
-use Rattle.lists.proofs.Flags.{true-false, and-both, and-first, and-second}
-use Rattle.lists.proofs.Lowests.{none-of-lowest}
+use Rattle.lists.specs.Sort.{Each, none, also, EachTwo, no-two, also-two}
 use Rattle.lists.proofs.Picks.{pick-each, pick-rising}
 use Rattle.lists.proofs.Sorts.{each-map, each-two-map, permuted-two, sort-permuted}
 use Rattle.grouped_rects_to_place.specs.declared.rect_to_place.RectToPlace.{RectToPlace}
-use Rattle.grouped_rects_to_place.specs.Groups.{sameGroup, leadOf, isLead, leads, members, earlier, groupOrder, groupsOf}
+use Rattle.grouped_rects_to_place.specs.Groups.{sameGroup, isLead, leads, members, earlier, groupOrder, groupsOf}
+use Rattle.grouped_rects_to_place.proofs.Parting.{same-back, same-through, one-lead}
 use Rattle.custody.proofs.Seating.{Distinct, Disjoint}
 
 -- ---- lists under a function
@@ -32,57 +27,24 @@ module _ {A B : Type 0} (f : A → B) where
   two-mapped h no-two = no-two
   two-mapped h (also-two {x} p ps) = also-two (each-mapped (h x) p) (two-mapped h ps)
 
--- ---- one group
+-- ---- two groups
 
 module _ (r : ℕ → RectToPlace) where
-  same→ : (i j : ℕ) → sameGroup r i j ≡ true → (i ≡ j) ⊎ ((0 < r i .group) × (r i .group ≡ r j .group))
-  unfolding sameGroup
-  same→ i j e = go (eqb i j) refl e
-    where
-      go : (t : Bool) → eqb i j ≡ t → (t || (ltb 0 (r i .group) && eqb (r i .group) (r j .group))) ≡ true → (i ≡ j) ⊎ ((0 < r i .group) × (r i .group ≡ r j .group))
-      go true p q = inl (eqb-true i j p)
-      go false p q =
-          inr (
-            ltb-true _ _ (and-first (ltb 0 (r i .group)) (eqb (r i .group) (r j .group)) q),
-            eqb-true _ _ (and-second (ltb 0 (r i .group)) (eqb (r i .group) (r j .group)) q),
-          )
-
-  →same : (i j : ℕ) → 0 < r i .group → r i .group ≡ r j .group → sameGroup r i j ≡ true
-  unfolding sameGroup
-  →same i j p q = go (eqb i j)
-    where
-      go : (t : Bool) → (t || (ltb 0 (r i .group) && eqb (r i .group) (r j .group))) ≡ true
-      go true = refl
-      go false = and-both (ltb 0 (r i .group)) (eqb (r i .group) (r j .group)) (lt-ltb _ _ p) (eq-eqb _ _ q)
-
-  lead-first : (i j : ℕ) → isLead r j ≡ true → i < j → sameGroup r i j ≡ true → ⊥
-  unfolding isLead leadOf
-  lead-first i j e h s =
-      true-false (sym s ∙ none-of-lowest j (λ k. sameGroup r k j) (omega (arith, eqb-true (lowest j (λ k. sameGroup r k j)) j e)) .at i h)
-
   -- no rectangle is in the groups of two leads
   abbrev Apart : ℕ → ℕ → Type 0
   Apart a b = (i : ℕ) → sameGroup r a i ≡ true → sameGroup r b i ≡ true → ⊥
 
-  apart-leads : (a b : ℕ) → isLead r b ≡ true → a < b → Apart a b
-  apart-leads a b lead h i p q = go (same→ a i p) (same→ b i q)
-    where
-      go : (a ≡ i) ⊎ ((0 < r a .group) × (r a .group ≡ r i .group)) → (b ≡ i) ⊎ ((0 < r b .group) × (r b .group ≡ r i .group)) → ⊥
-      go (inl e) (inl f) = omega arith
-      go (inl e) (inr f) =
-          let g : r a .group ≡ r i .group = ap (λ (k : ℕ). r k .group) e in
-          lead-first a b lead h (→same a b (omega arith) (omega arith))
-      go (inr e) (inl f) =
-          let g : r b .group ≡ r i .group = ap (λ (k : ℕ). r k .group) f in
-          lead-first a b lead h (→same a b (omega arith) (omega arith))
-      go (inr e) (inr f) = lead-first a b lead h (→same a b (omega arith) (omega arith))
+  apart-leads : (a b : ℕ) → isLead r a ≡ true → isLead r b ≡ true → a < b → Apart a b
+  apart-leads a b p q h i e f =
+      let same : a ≡ b = one-lead r a b p q (same-through r a i b e (same-back r b i f)) in
+      omega arith
 
 module _ (r : ℕ → RectToPlace) (n : ℕ) where
   order-apart : EachTwo (Apart r) (groupOrder n r)
   unfolding groupOrder
   order-apart =
       permuted-two (λ a b p i s t. p i t s) (sort-permuted (earlier n r) (leads n r))
-      (each-two-map (λ a b p q l. apart-leads r a b (q .1) l) (pick-each n (isLead r)) (pick-rising n (isLead r)))
+      (each-two-map (λ a b p q l. apart-leads r a b (p .1) (q .1) l) (pick-each n (isLead r)) (pick-rising n (isLead r)))
 
   members-apart : (a b : ℕ) → Apart r a b → Disjoint (members n r a) (members n r b)
   members-apart a b p =

@@ -1,16 +1,15 @@
 -- The ledger weighed: what a pack's records add, and what a return takes out.
-use Prim.Native.Nat.{ℕ, zero, suc, _+_, _*_, _≤_, _<_}
+use Prim.Native.Nat.{ℕ, _+_, _*_, _<_}
 use mathlib.Core.Path.{_≡_, refl, sym, ap, _∙_}
-use mathlib.Core.List.{List, [], _∷_, _++_, map}
+use mathlib.Core.List.{List, _∷_}
 use mathlib.Core.Bool.{Bool, true, false, _&&_, cond}
 use native.Mathlib.Nat.{add-zero}
 use native.Mathlib.Omega.{arith}
 use borrow.Author.Tests.{eqb-true, eq-eqb}
 use lib.Dec.{eqb}
-use lib.ListN.{length, getD, take, drop}
+use lib.ListN.{length, getD, drop}
 use lib.Seq.{getD-take, getD-drop}
-use Rattle.lists.specs.Sum.{sumTo}
-use Rattle.lists.proofs.Flags.{cond-yes, cond-no, and-both, and-first, and-second}
+use Rattle.lists.proofs.Flags.{cond-yes, and-both, and-first, and-second}
 use Rattle.lists.proofs.Sums.{sum-ext}
 use Rattle.bin_section.specs.declared.section.BinSection.{BinSection}
 use Rattle.bin_section.specs.declared.width_height_depth.WidthHeightDepth.{WidthHeightDepth}
@@ -18,16 +17,13 @@ use Rattle.bin_section.specs.Section.{section}
 use Rattle.sections.proofs.Chunks.{joined-part}
 use Rattle.grouped_rects_to_place.specs.Rect.{rectAt}
 use Rattle.rectangle_pack.specs.Seats.{Seat, unplaced, seat, seatWords, placementsOf}
+use Rattle.rectangle_pack.proofs.Tables.{seat-long}
 use Rattle.rectangle_pack.specs.Pack.{rectCount}
 use Rattle.custody.specs.Ledger.{placedIn, boxOf, newBoxes, In, first, later, sameBox, takenOut}
 use Rattle.custody.proofs.Totals.{total, total-picked}
 use Rattle.custody.proofs.Seating.{seatWeight, seatTotal}
 
 -- ---- a pack
-
-seat-long : (s : Seat) → length (seatWords s) ≡ 5
-seat-long unplaced = refl
-seat-long (seat id l) = refl
 
 -- the words of a placement record
 word-at : (seats : List Seat) (i j : ℕ) → i < length seats → j < 5 → getD (placementsOf seats) (i * 5 + j) 0 ≡ getD (seatWords (getD seats i unplaced)) j 0

@@ -1,39 +1,35 @@
 -- A pack leaves every chamber whole: what was free is free still or lies in a box that its records place there; a pack refused by a
 -- check changes nothing.
-use Prim.Native.Nat.{ℕ, zero, suc, _+_, _*_, _≤_, _<_}
+use Prim.Native.Nat.{ℕ, _+_, _*_, _≤_, _<_}
 use mathlib.Core.Path.{_≡_, refl, sym, ap, _∙_, subst}
 use mathlib.Core.Logic.{_⊎_, inl, inr}
-use mathlib.Core.List.{List, [], _∷_, _++_}
-use mathlib.Core.Bool.{Bool, true, false, _&&_, _||_, not, cond}
+use mathlib.Core.List.{List, [], _++_}
+use mathlib.Core.Bool.{Bool, true, false, _&&_, not, cond}
 use native.Mathlib.Decide.{ℕ-discrete}
 use native.Mathlib.Omega.{arith}
-use borrow.Author.Tests.{ltb-true, ltb-false, eq-eqb, ne-eqb, not-false}
+use borrow.Author.Tests.{ltb-true, ne-eqb, not-false, le-ltb}
 use lib.Dec.{ltb, leb, eqb}
 use lib.ListN.{length, getD, replicate, getD-replicate}
-use Rattle.lists.specs.Lowest.{lowest}
-use Rattle.lists.specs.Tab.{tab}
 use Rattle.lists.specs.Sort.{Each, none, also}
 use Rattle.lists.proofs.Flags.{cond-yes, cond-no, and-first, and-second, or-none}
 use Rattle.lists.proofs.Lowests.{None}
-use Rattle.lists.proofs.Sorts.{each-append, each-map, sort-each}
+use Rattle.lists.proofs.Sorts.{each-map, sort-each}
 use Rattle.bin_section.specs.declared.reply.Reply.{Reply}
 use Rattle.bin_section.specs.declared.section.BinSection.{BinSection}
 use Rattle.bin_section.specs.declared.width_height_depth.WidthHeightDepth.{WidthHeightDepth}
 use Rattle.bin_section.specs.Sides.{sideOk, sidesOk, Small}
-use Rattle.bin_section.specs.Section.{zeroSection, sectionAt}
 use Rattle.bin_section.specs.Replies.{Check, reply, once, each, inOrder}
-use Rattle.cells.specs.Whole.{Inside, AllInside, Whole}
+use Rattle.cells.specs.Whole.{Whole}
 use Rattle.cells.proofs.Grid.{has}
 use Rattle.cells.proofs.Held.{held, held-append, whole-same}
 use Rattle.cells.proofs.Insides.{inside-first, inside-second, inside-both}
 use Rattle.placing.proofs.Reaches.{each-tab}
 use Rattle.target_bin.specs.declared.chamber.TargetBin.{TargetBin}
 use Rattle.target_bin.specs.Chambers.{chamberAt, chamberCount, tableOf}
-use Rattle.sections.proofs.Reading.{length-sections}
-use Rattle.target_bin.specs.Store.{partAt, freeAt, freeOf, storeOf}
-use Rattle.target_bin.specs.Checks.{badChamber, badSections, check1, check2, check3}
+use Rattle.target_bin.specs.Store.{freeAt, freeOf, storeOf}
+use Rattle.target_bin.specs.Checks.{check1, check2, check3}
 use Rattle.target_bin.proofs.Ordering as ordering
-use Rattle.target_bin.proofs.Passing.{SidesInRange, Sound, sound, no-fault}
+use Rattle.target_bin.proofs.Passing.{SidesInRange}
 use Rattle.target_bin.proofs.Parts.{length-freeOf, getD-freeOf}
 use Rattle.grouped_rects_to_place.specs.declared.rect_to_place.RectToPlace.{RectToPlace}
 use Rattle.grouped_rects_to_place.specs.Rect.{rectAt}
@@ -41,16 +37,19 @@ use Rattle.grouped_rects_to_place.specs.Checks.{badRect, repeatedId}
 use Rattle.grouped_rects_to_place.specs.Groups.{groupsOf}
 use Rattle.rectangle_pack.specs.Order.{tried, trialOrder}
 use Rattle.rectangle_pack.specs.Seats.{Seat, unplaced, placementsOf}
-use Rattle.rectangle_pack.specs.Packing.{State, state, Ended, packGroups}
+use Rattle.rectangle_pack.specs.Packing.{state, Ended}
 use Rattle.rectangle_pack.specs.Pack.{rectCount, rectLengthsOk, noRoom, rectChecks, packChecks, start, packing, binsWith, PackOutcome, packOutcome, written, packOf}
-use Rattle.custody.specs.Ledger.{Ledger, newBoxes, places, afterPack}
-use Rattle.custody.specs.Run.{Hall, hallOf, packed, placedAt}
-use Rattle.custody.proofs.Between.{Good, good-ledger, one-index}
+use Rattle.rectangle_pack.proofs.Checked.{no-bad, passed}
+use Rattle.rectangle_pack.proofs.Ending.{pack-refused, pack-done}
+use Rattle.rectangle_pack.proofs.Room.{never-overflows}
+use Rattle.custody.specs.Ledger.{newBoxes, places, afterPack}
+use Rattle.custody.specs.Run.{Hall, hallOf, packed, SameChambers, placedAt}
+use Rattle.custody.proofs.Between.{Good, good-ledger, same-chambers, one-index}
 use Rattle.custody.proofs.Groups.{groups-disjoint, groups-distinct, groups-below}
 use Rattle.custody.proofs.Ledgers.{new-total}
-use Rattle.custody.proofs.Packs.{Ready, Conserved, Finished, start-conserved, groups-conserved}
+use Rattle.custody.proofs.Packs.{Conserved, Finished, start-conserved, groups-conserved}
 use Rattle.custody.proofs.Placements.{Sided, each-inside, inside-each}
-use Rattle.custody.proofs.Seating.{seatTotal, Waiting, seats-few}
+use Rattle.custody.proofs.Seating.{seatTotal, Waiting}
 use Rattle.custody.proofs.Totals.{total, held-total, strays, all-inside}
 use Rattle.custody.proofs.Written.{written-count, written-at, written-free, written-sound}
 
@@ -83,16 +82,12 @@ rect-sided : (r : ℕ → RectToPlace) (n : ℕ) → None n (badRect r) → (i :
 unfolding badRect
 rect-sided r n p i h = sides-some (r i .whd) (not-false (sidesOk (r i .whd)) (p .at i h))
 
-room-left : (chambers : List ℕ) (n m : ℕ) → None m (noRoom chambers n) → (k : ℕ) → k < m → chamberAt chambers k .count + 2 * n ≤ 128
-unfolding noRoom
-room-left chambers n m p k h = ltb-false 128 (chamberAt chambers k .count + 2 * n) (p .at k h)
-
 chamber-small : (whd : WidthHeightDepth) → SidesInRange whd → Small whd
 chamber-small whd p = record { width-small = p .width-ok .most; height-small = p .height-ok .most; depth-small = p .depth-ok .most }
 
-length-freeAt : (chambers store : List ℕ) (k : ℕ) → length (freeAt chambers store k) ≡ chamberAt chambers k .count
-unfolding freeAt
-length-freeAt chambers store k = length-sections (partAt store k) (chamberAt chambers k .count)
+not-full : (chambers : List ℕ) (n k : ℕ) → chamberAt chambers k .count + 2 * n ≤ 128 → noRoom chambers n k ≡ false
+unfolding noRoom
+not-full chambers n k h = le-ltb 128 (chamberAt chambers k .count + 2 * n) h
 
 order-low : (chambers : List ℕ) → Each (λ k. k < chamberCount chambers) (trialOrder chambers)
 unfolding trialOrder
@@ -123,32 +118,16 @@ module _ (f : Hall) (good : Good f) (rects placements : List ℕ) where
   abbrev whds : ℕ → WidthHeightDepth
   whds = λ k. chamberAt c k .whd
 
-  abbrev row : List Check
-  row =
-      once 1 (not (rectLengthsOk rects placements))
-      ∷ check1 c s
-      ∷ check2 c
-      ∷ check3 c s
-      ∷ each 4 n (badRect r)
-      ∷ each 5 n (repeatedId r)
-      ∷ each 6 m (noRoom c n)
-      ∷ []
+  -- the answer of the checks, 0 where all pass
+  abbrev checked : Reply
+  checked = ordering.answerOf (packChecks c s rects placements) (reply 0 0)
 
-  numbered : ordering.Numbered row
-  numbered =
-      ordering.more (λ (e : _≡_ {A = ℕ} 1 0). omega arith) (ordering.more (λ (e : _≡_ {A = ℕ} 1 0). omega arith)
-      (ordering.more (λ (e : _≡_ {A = ℕ} 2 0). omega arith) (ordering.more (λ (e : _≡_ {A = ℕ} 3 0). omega arith) (ordering.more (λ (e : _≡_ {A = ℕ} 4 0). omega arith)
-      (ordering.more (λ (e : _≡_ {A = ℕ} 5 0). omega arith) (ordering.more (λ (e : _≡_ {A = ℕ} 6 0). omega arith) ordering.none))))))
-
-  low : Each (λ x. x .answer .number < 7) row
+  low : Each (λ x. x .answer .number < 7) (packChecks c s rects placements)
+  unfolding packChecks rectChecks
   low =
       also {x = once 1 (not (rectLengthsOk rects placements))} (omega arith) (also {x = check1 c s} (omega arith) (also {x = check2 c} (omega arith)
       (also {x = check3 c s} (omega arith) (also {x = each 4 n (badRect r)} (omega arith)
       (also {x = each 5 n (repeatedId r)} (omega arith) (also {x = each 6 m (noRoom c n)} (omega arith) none))))))
-
-  row-of : packOf c s rects placements ≡ inOrder row (λ a. packOutcome a c s placements) (written c (packing c s rects))
-  unfolding packOf packChecks rectChecks
-  row-of = refl
 
   -- ---- refused by a check
 
@@ -173,29 +152,9 @@ module _ (f : Hall) (good : Good f) (rects placements : List ℕ) where
   unfolding written
   written-is = refl
 
-  refused-good : (ordering.answerOf row (reply 0 0) .number ≡ 0 → ⊥) → Good (packed f rects placements)
-  refused-good ne =
-      let a : Reply = ordering.answerOf row (reply 0 0) in
-      let same : packOf c s rects placements ≡ packOutcome a c s placements =
-      row-of ∙ ordering.alone-fires (λ b. packOutcome b c s placements) (written c (packing c s rects)) (reply 0 0) row refl ne in
-      subst (λ (o : PackOutcome). Good (hallOf (o .chambers) (o .store) (afterPack (o .answer) rects (o .placements) (f .ledger)))) (sym same)
-      (good-ledger c s (f .ledger) (afterPack a rects placements (f .ledger)) (λ id. nothing-placed a id (places-none a ne (low-answer (reply 0 0) low (omega arith)))) good)
-
   -- ---- past the checks
 
-  module _ (pass : ordering.AllPass row) where
-    none4 : None n (badRect r)
-    none4 = go pass
-      where
-        go : ordering.AllPass row → None n (badRect r)
-        go (ordering.and p0 (ordering.and p1 (ordering.and p2 (ordering.and p3 (ordering.and p4 rest))))) = no-fault n (badRect r) p4
-
-    none6 : None m (noRoom c n)
-    none6 = go pass
-      where
-        go : ordering.AllPass row → None m (noRoom c n)
-        go (ordering.and p0 (ordering.and p1 (ordering.and p2 (ordering.and p3 (ordering.and p4 (ordering.and p5 (ordering.and p6 rest))))))) = no-fault m (noRoom c n) p6
-
+  module _ (pass : ordering.answerOf (packChecks c s rects placements) (reply 0 0) .number ≡ 0) where
     started : Conserved m n ids whds r (freeOf c s) (state (freeOf c s) (replicate n unplaced))
     started =
         start-conserved m n ids whds r (freeOf c s) index small sided (length-freeOf c s)
@@ -208,12 +167,12 @@ module _ (f : Hall) (good : Good f) (rects placements : List ℕ) where
         small k h = chamber-small (whds k) (good .sound-tables .shapes-ok .sides k h)
 
         sided : (i : ℕ) → i < n → Sided (record { whd = r i .whd })
-        sided = rect-sided r n none4
+        sided = rect-sided r n (no-bad c s rects placements pass)
 
-    finished : Finished m n ids whds r (freeOf c s) (one-index c s (good .sound-tables)) (λ k h. chamber-small (whds k) (good .sound-tables .shapes-ok .sides k h)) (rect-sided r n none4) (packing c s rects)
+    finished : Finished m n ids whds r (freeOf c s) (one-index c s (good .sound-tables)) (λ k h. chamber-small (whds k) (good .sound-tables .shapes-ok .sides k h)) (rect-sided r n (no-bad c s rects placements pass)) (packing c s rects)
     unfolding packing start
     finished =
-        groups-conserved m n ids whds r (freeOf c s) (one-index c s (good .sound-tables)) (λ k h. chamber-small (whds k) (good .sound-tables .shapes-ok .sides k h)) (rect-sided r n none4)
+        groups-conserved m n ids whds r (freeOf c s) (one-index c s (good .sound-tables)) (λ k h. chamber-small (whds k) (good .sound-tables .shapes-ok .sides k h)) (rect-sided r n (no-bad c s rects placements pass))
         (trialOrder c) (groupsOf n r) (state (freeOf c s) (replicate n unplaced)) (order-low c) started
         (record { waiting = all-waiting n (groups-below r n); distinct = groups-distinct r n; apart = groups-disjoint r n })
 
@@ -230,10 +189,10 @@ module _ (f : Hall) (good : Good f) (rects placements : List ℕ) where
     k₀ = finished .conserved
 
     few : (k : ℕ) → k < m → length (getD frees k []) ≤ 128
-    few k h = omega (arith, k₀ .room k h, seats-few r n (ids k) seats, room-left c n m none6 k h, free-long k h)
+    few k h = never-overflows c s rects (passed c s rects placements pass .rects-good .few) room k
       where
-        free-long : (k : ℕ) → k < m → length (getD (freeOf c s) k []) ≡ chamberAt c k .count
-        free-long k h = ap length (getD-freeOf c s k [] h) ∙ length-freeAt c s k
+        room : None m (noRoom c n)
+        room = record { at = λ j b. not-full c n j (passed c s rects placements pass .ready .room j b) }
 
     new-weight : (w : BinSection → ℕ) (k : ℕ) → total w (newBoxes rects (placementsOf seats) (ids k)) ≡ seatTotal w r n (ids k) seats
     new-weight w k = new-total w rects (ids k) seats (k₀ .seats-long)
@@ -277,13 +236,39 @@ module _ (f : Hall) (good : Good f) (rects placements : List ℕ) where
               (whole-at k h);
         }
 
-  pub pack-good : Good (packed f rects placements)
-  pack-good = go (ℕ-discrete (ordering.answerOf row (reply 0 0) .number) 0)
+  -- either way
+  data Outcomes : Type 0 where
+    unchanged : (a : Reply) → packOf c s rects placements ≡ packOutcome a c s placements → places a ≡ false → Outcomes
+    changed : ordering.answerOf (packChecks c s rects placements) (reply 0 0) .number ≡ 0 → packOf c s rects placements ≡ written c (packing c s rects) → Outcomes
+
+  outcomes : Outcomes
+  outcomes = go (ℕ-discrete (checked .number) 0)
     where
-      go : Dec (ordering.answerOf row (reply 0 0) .number ≡ 0) → Good (packed f rects placements)
-      go (no ne) = refused-good ne
-      go (yes z) =
-          let same : packOf c s rects placements ≡ written c (packing c s rects) =
-          row-of ∙ ordering.alone-passes (λ a. packOutcome a c s placements) (written c (packing c s rects)) (reply 0 0) row numbered z in
+      go : Dec (checked .number ≡ 0) → Outcomes
+      go (no ne) =
+          unchanged checked (sym (pack-refused c s rects placements checked refl ne)) (places-none checked ne (low-answer (reply 0 0) low (omega arith)))
+      go (yes z) = changed z (sym (pack-done c s rects placements checked refl z (written c (packing c s rects)) refl))
+
+  pub pack-good : Good (packed f rects placements)
+  pack-good = go outcomes
+    where
+      go : Outcomes → Good (packed f rects placements)
+      go (unchanged a same no-places) =
+          subst (λ (o : PackOutcome). Good (hallOf (o .chambers) (o .store) (afterPack (o .answer) rects (o .placements) (f .ledger)))) (sym same)
+          (good-ledger c s (f .ledger) (afterPack a rects placements (f .ledger)) (λ id. nothing-placed a id no-places) good)
+      go (changed pass same) =
           subst (λ (o : PackOutcome). Good (hallOf (o .chambers) (o .store) (afterPack (o .answer) rects (o .placements) (f .ledger)))) (sym (same ∙ written-is))
-          (written-good (ordering.all-pass row (reply 0 0) numbered z))
+          (written-good pass)
+
+  pub pack-same : SameChambers (f .chambers) (packOf (f .chambers) (f .store) rects placements .chambers)
+  pack-same = go outcomes
+    where
+      go : Outcomes → SameChambers c (packOf c s rects placements .chambers)
+      go (unchanged a same no-places) = subst (λ (o : PackOutcome). SameChambers c (o .chambers)) (sym same) (same-chambers c)
+      go (changed pass same) =
+          subst (λ (o : PackOutcome). SameChambers c (o .chambers)) (sym (same ∙ written-is))
+          (record {
+            many = written-count c s (frees pass) (good .sound-tables) (k₀ pass .frees-long) (few pass);
+            ids = λ k h. ap (λ (b : TargetBin). b .id) (written-at c s (frees pass) (good .sound-tables) (k₀ pass .frees-long) (few pass) k h);
+            sides = λ k h. ap (λ (b : TargetBin). b .whd) (written-at c s (frees pass) (good .sound-tables) (k₀ pass .frees-long) (few pass) k h);
+          })

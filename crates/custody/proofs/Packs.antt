@@ -1,8 +1,8 @@
 -- The packing of the groups keeps each cell: in each chamber what was free is free still, or lies in the box of a rectangle seated there.
-use Prim.Native.Nat.{ℕ, zero, suc, _+_, _*_, _≤_, _<_}
-use mathlib.Core.Path.{_≡_, refl, sym, ap, _∙_, subst}
+use Prim.Native.Nat.{ℕ, _+_, _<_}
+use mathlib.Core.Path.{_≡_, refl, sym, ap, _∙_}
 use mathlib.Core.Logic.{_⊎_, inl, inr}
-use mathlib.Core.List.{List, [], _∷_, map}
+use mathlib.Core.List.{List, [], _∷_}
 use mathlib.Core.Bool.{Bool, true, false, cond}
 use native.Mathlib.Nat.{mul-zero}
 use native.Mathlib.Decide.{ℕ-discrete}
@@ -11,14 +11,11 @@ use borrow.Author.Tests.{ltb-true}
 use lib.Dec.{ltb}
 use lib.ListN.{length, getD, set, replicate, length-set, length-replicate, getD-replicate}
 use lib.Seq.{getD-set-same, getD-set-other}
-use Rattle.lists.specs.Lowest.{lowest}
-use Rattle.lists.specs.Sum.{sumTo}
-use Rattle.lists.specs.Sort.{Each, none, also, EachTwo, no-two, also-two}
+use Rattle.lists.specs.Sort.{Each, none, also, EachTwo, also-two}
 use Rattle.lists.proofs.Flags.{true-false}
 use Rattle.lists.proofs.Lowests.{lowest-fires}
 use Rattle.lists.proofs.Sorts.{each-map, each-both, each-at}
 use Rattle.lists.proofs.Sums.{sum-all}
-use Rattle.bin_section.specs.declared.rect_to_insert.RectToInsert.{RectToInsert}
 use Rattle.bin_section.specs.declared.section.BinSection.{BinSection}
 use Rattle.bin_section.specs.declared.width_height_depth.WidthHeightDepth.{WidthHeightDepth}
 use Rattle.bin_section.specs.Sides.{Small}
@@ -28,16 +25,14 @@ use Rattle.cells.proofs.Held.{held}
 use Rattle.grouped_rects_to_place.specs.declared.rect_to_place.RectToPlace.{RectToPlace}
 use Rattle.placing.specs.Rules.{Trial, stops, whole, placeGroup}
 use Rattle.try_place.specs.declared.packed_location.PackedLocation.{PackedLocation}
-use Rattle.rectangle_pack.specs.Seats.{Seat, unplaced, seat, seated}
+use Rattle.rectangle_pack.specs.Seats.{Seat, unplaced, seated}
 use Rattle.rectangle_pack.specs.Packing.{State, state, rectsAt, trialIn, isWhole, firstWhole, changedBy, changed, Ended, ended, packGroups}
-use Rattle.custody.proofs.Placements.{Sided, boxesAt, Kept, group-placing, placing-long, group-kept}
+use Rattle.rectangle_pack.proofs.Placings.{group-placings}
+use Rattle.rectangle_pack.proofs.Room.{group-long, rects-long}
+use Rattle.rectangle_pack.proofs.Tables.{length-seated}
+use Rattle.custody.proofs.Placements.{Sided, boxesAt, Kept, group-kept}
 use Rattle.custody.proofs.Totals.{total, held-total, strays, none-strays}
-use Rattle.custody.proofs.Seating.{seatWeight, seatTotal, no-weight, Waiting, Distinct, Disjoint, seated-long, seated-here, seated-elsewhere, seated-others}
-
-total-ones : (bs : List BinSection) → total (λ b. 1) bs ≡ length bs
-unfolding total
-total-ones [] = refl
-total-ones (b ∷ bs) = omega (arith, total-ones bs)
+use Rattle.custody.proofs.Seating.{seatWeight, seatTotal, no-weight, Waiting, Distinct, Disjoint, seated-here, seated-elsewhere, seated-others}
 
 -- the groups that have not been tried: all of them wait, and no rectangle stands twice
 pub record Ready (n : ℕ) (seats : List Seat) (groups : List (List ℕ)) : Type 0 where
@@ -52,7 +47,6 @@ pub record Conserved (m n : ℕ) (ids : ℕ → ℕ) (whds : ℕ → WidthHeight
   pub cells : (k : ℕ) → k < m → (cx cy cz : ℕ) → seatTotal (λ b. has b cx cy cz) r n (ids k) (s .seats) + held (getD (s .frees) k []) cx cy cz ≡ held (getD frees₀ k []) cx cy cz
   pub placed-in : (k : ℕ) → k < m → seatTotal (strays (whds k)) r n (ids k) (s .seats) ≡ 0
   pub free-in : (k : ℕ) → k < m → Each (Inside (whds k)) (getD (s .frees) k [])
-  pub room : (k : ℕ) → k < m → length (getD (s .frees) k []) ≤ length (getD frees₀ k []) + 2 * seatTotal (λ b. 1) r n (ids k) (s .seats)
 
 module _
     (m n : ℕ) (ids : ℕ → ℕ) (whds : ℕ → WidthHeightDepth) (r : ℕ → RectToPlace) (frees₀ : List (List BinSection))
@@ -76,7 +70,6 @@ module _
         cells = λ k h cx cy cz. omega (arith, empty-total (λ b. has b cx cy cz) (ids k));
         placed-in = λ k h. empty-total (strays (whds k)) (ids k);
         free-in = ins;
-        room = λ k h. omega arith;
       }
 
   -- ---- one group is served in chamber k
@@ -85,11 +78,6 @@ module _
   unfolding rectsAt
   group-sided seats none = none
   group-sided seats (also {x = i} p ps) = also (sided i (p .below)) (group-sided seats ps)
-
-  length-rects : (h : List ℕ) → length (rectsAt r h) ≡ length h
-  unfolding rectsAt
-  length-rects [] = refl
-  length-rects (i ∷ is) = ap suc (length-rects is)
 
   module _
       (s : State) (g : List ℕ) (k : ℕ) (ls : List PackedLocation) (free′ : List BinSection)
@@ -100,10 +88,10 @@ module _
     placing = e
 
     kept : Kept (whds k) (getD (s .frees) k []) (boxesAt (rectsAt r g) ls) free′
-    kept = group-kept (whds k) (small k low) (p .free-in k low) (group-sided (s .seats) ws) (group-placing (getD (s .frees) k []) (rectsAt r g) ls free′ placing)
+    kept = group-kept (whds k) (small k low) (p .free-in k low) (group-sided (s .seats) ws) (group-placings (getD (s .frees) k []) (rectsAt r g) ls free′ placing)
 
     same-length : length ls ≡ length g
-    same-length = placing-long (group-placing (getD (s .frees) k []) (rectsAt r g) ls free′ placing) ∙ length-rects g
+    same-length = group-long (getD (s .frees) k []) (rectsAt r g) ls free′ placing ∙ rects-long r g
 
     free-here : getD (set (s .frees) k free′) k [] ≡ free′
     free-here = getD-set-same (s .frees) k free′ [] (omega (arith, p .frees-long))
@@ -139,28 +127,14 @@ module _
     free-at j h (yes q) = rw (q, free-here) (kept .free-in)
     free-at j h (no ne) = rw (free-there j ne) (p .free-in j h)
 
-    room-at : (j : ℕ) → j < m → Dec (j ≡ k) → length (getD (set (s .frees) k free′) j []) ≤ length (getD frees₀ j []) + 2 * seatTotal (λ b. 1) r n (ids j) (seated (ids k) g ls (s .seats))
-    room-at j h (yes q) =
-        rw q
-        (omega (
-          arith,
-          added (λ b. 1),
-          total-ones (boxesAt (rectsAt r g) ls),
-          kept .room,
-          p .room k low,
-          ap length free-here,
-        ))
-    room-at j h (no ne) = omega (arith, unmoved (λ b. 1) j h ne, p .room j h, ap length (free-there j ne))
-
     group-conserved : Conserved m n ids whds r frees₀ (state (set (s .frees) k free′) (seated (ids k) g ls (s .seats)))
     group-conserved =
         record {
           frees-long = length-set (s .frees) k free′ ∙ p .frees-long;
-          seats-long = seated-long r n (ids k) g ls (s .seats) ∙ p .seats-long;
+          seats-long = length-seated (ids k) g ls (s .seats) ∙ p .seats-long;
           cells = λ j h. cells-at j h (ℕ-discrete j k);
           placed-in = λ j h. placed-at j h (ℕ-discrete j k);
           free-in = λ j h. free-at j h (ℕ-discrete j k);
-          room = λ j h. room-at j h (ℕ-discrete j k);
         }
 
   -- ---- all groups

@@ -14,25 +14,25 @@ use Rattle.lists.proofs.Flags.{cond-yes, cond-no, and-both, and-no-first, and-n
 use Rattle.bin_section.specs.declared.section.BinSection.{BinSection}
 use Rattle.bin_section.specs.declared.width_height_depth.WidthHeightDepth.{WidthHeightDepth}
 use Rattle.bin_section.specs.Sides.{sides}
-use Rattle.bin_section.specs.Replies.{reply, each}
+use Rattle.bin_section.specs.Replies.{reply}
 use Rattle.cells.specs.Whole.{Inside, Whole}
 use Rattle.cells.proofs.Grid.{has}
 use Rattle.cells.proofs.Held.{held, held-append, whole-same}
 use Rattle.cells.proofs.Insides.{inside-first, inside-second, inside-both, inside-more, inside-none}
 use Rattle.target_bin.specs.declared.chamber.TargetBin.{TargetBin}
-use Rattle.target_bin.specs.Chambers.{bin, chamberAt, chamberCount, chamberOf, chambersOf}
+use Rattle.target_bin.specs.Chambers.{bin, chamberAt, chamberCount, chambersOf, chamberOf}
 use Rattle.target_bin.specs.Store.{freeAt, freeOf}
-use Rattle.target_bin.specs.Outcome.{Outcome, outcome, refused}
+use Rattle.target_bin.specs.Outcome.{Outcome, outcome}
 use Rattle.target_bin.specs.Return.{returnOf}
 use Rattle.target_bin.proofs.Tables.{length-chambersOf, getD-chambersOf}
 use Rattle.target_bin.proofs.Parts.{length-freeOf, getD-freeOf}
 use Rattle.target_bin.proofs.ReturnModel.{Accepted, return-done, return-refusal, return-chambers, return-free, return-sound}
 use Rattle.custody.specs.Ledger.{In, first, later, takenOut, afterReturn}
-use Rattle.custody.specs.Run.{Hall, hallOf, takenBack}
+use Rattle.custody.specs.Run.{Hall, hallOf, takenBack, SameChambers}
 use Rattle.custody.proofs.Placements.{each-inside, inside-each}
 use Rattle.custody.proofs.Totals.{total, held-total, strays, none-strays, all-inside}
 use Rattle.custody.proofs.Ledgers.{taken-total}
-use Rattle.custody.proofs.Between.{Good, good-ledger, one-index}
+use Rattle.custody.proofs.Between.{Good, good-ledger, same-chambers, one-index}
 
 -- what holds of each box of a list holds of a box that stands in it
 in-list : (whd : WidthHeightDepth) (box : BinSection) {boxes : List BinSection} → In box boxes → Each (Inside whd) boxes → Inside whd box
@@ -146,6 +146,9 @@ module _ (f : Hall) (good : Good f) (id : ℕ) (box : BinSection) (there : retur
               rw (b .0, b .1) (whole-at j l (ℕ-discrete j at));
         }
 
+    accepted-same : SameChambers c (o .chambers)
+    accepted-same = record { many = many; ids = λ j h. same-bin j h (ℕ-discrete j at) .0; sides = λ j h. same-bin j h (ℕ-discrete j at) .1 }
+
   -- a refused return leaves tables and ledger as they were
   refused-ledger : (o .reply .number ≡ 0 → ⊥) → (j : ℕ) → afterReturn (o .reply) id box (f .ledger) j ≡ f .ledger j
   unfolding afterReturn
@@ -166,3 +169,10 @@ module _ (f : Hall) (good : Good f) (id : ℕ) (box : BinSection) (there : retur
       go : Dec (o .reply .number ≡ 0) → Good (takenBack f id box)
       go (yes e) = accepted-good (return-done c s id box e) e
       go (no ne) = refused-good ne
+
+  pub return-same : SameChambers (f .chambers) (returnOf (f .chambers) (f .store) id box .chambers)
+  return-same = go (ℕ-discrete (o .reply .number) 0)
+    where
+      go : Dec (o .reply .number ≡ 0) → SameChambers (f .chambers) (returnOf (f .chambers) (f .store) id box .chambers)
+      go (yes e) = accepted-same (return-done c s id box e) e
+      go (no ne) = subst (λ (p : Outcome). SameChambers c (p .chambers)) (sym (return-refusal c s id box ne)) (same-chambers c)

@@ -1,10 +1,9 @@
 -- The seats of rectangles weighed: what a group that takes its seats adds, and to which chamber.
-use Prim.Native.Nat.{ℕ, zero, suc, _+_, _*_, _≤_, _<_}
-use mathlib.Core.Path.{_≡_, refl, sym, ap, ap₂, _∙_}
-use mathlib.Core.List.{List, [], _∷_, _++_, map}
-use mathlib.Core.Bool.{Bool, true, false, cond}
+use Prim.Native.Nat.{ℕ, _+_, _<_}
+use mathlib.Core.Path.{_≡_, refl, sym, ap, _∙_}
+use mathlib.Core.List.{List, [], _∷_}
+use mathlib.Core.Bool.{cond}
 use native.Mathlib.Omega.{arith}
-use native.Mathlib.Decide.{ℕ-discrete}
 use borrow.Author.Tests.{eq-eqb, ne-eqb}
 use lib.Dec.{eqb}
 use lib.ListN.{length, getD, set, length-set}
@@ -13,7 +12,6 @@ use Rattle.lists.specs.Sum.{sumTo}
 use Rattle.lists.specs.Sort.{Each, none, also, EachTwo, no-two, also-two}
 use Rattle.lists.proofs.Flags.{cond-yes, cond-no}
 use Rattle.lists.proofs.Sorts.{each-map, each-both}
-use Rattle.lists.proofs.Sums.{sum-most}
 use Rattle.bin_section.specs.declared.width_height_depth.WidthHeightDepth.{WidthHeightDepth}
 use Rattle.bin_section.specs.declared.section.BinSection.{BinSection}
 use Rattle.try_place.specs.declared.packed_location.PackedLocation.{PackedLocation}
@@ -46,15 +44,6 @@ Disjoint g h = Each (λ i. Each (λ j. i ≡ j → ⊥) h) g
 pub no-weight : (w : BinSection → ℕ) (at : ℕ) (whd : WidthHeightDepth) → seatWeight w at whd unplaced ≡ 0
 unfolding seatWeight
 no-weight w at whd = refl
-
-light : (id : ℕ) (whd : WidthHeightDepth) (s : Seat) → seatWeight (λ b. 1) id whd s ≤ 1
-unfolding seatWeight
-light id whd unplaced = omega arith
-light id whd (seat at l) = go (eqb at id)
-  where
-    go : (t : Bool) → cond t 1 0 ≤ 1
-    go true = omega arith
-    go false = omega arith
 
 module _ (r : ℕ → RectToPlace) (n : ℕ) where
   -- one rectangle takes its seat
@@ -89,12 +78,6 @@ module _ (r : ℕ → RectToPlace) (n : ℕ) where
   seat-elsewhere : (w : BinSection → ℕ) (at id : ℕ) (whd : WidthHeightDepth) (l : PackedLocation) → (id ≡ at → ⊥) → seatWeight w at whd (seat id l) ≡ 0
   unfolding seatWeight
   seat-elsewhere w at id whd l ne = cond-no (w (boxAtLocation l whd)) 0 (eqb id at) (ne-eqb id at ne)
-
-  pub seated-long : (id : ℕ) (g : List ℕ) (ls : List PackedLocation) (seats : List Seat) → length (seated id g ls seats) ≡ length seats
-  unfolding seated
-  seated-long id [] ls seats = refl
-  seated-long id (i ∷ is) [] seats = refl
-  seated-long id (i ∷ is) (l ∷ ls) seats = seated-long id is ls (set seats i (seat id l)) ∙ length-set seats i (seat id l)
 
   -- a group takes its seats in the chamber of that id: its boxes are added there
   pub seated-here :
@@ -145,9 +128,3 @@ module _ (r : ℕ → RectToPlace) (n : ℕ) where
   seated-others id [] seats (also p ps) ws = ws
   seated-others id (l ∷ ls) seats (also {x = i} p ps) ws =
       seated-others id ls (set seats i (seat id l)) ps (still-waiting seats i (seat id l) p ws)
-
-  -- there are no more seats than rectangles
-  pub seats-few : (id : ℕ) (seats : List Seat) → seatTotal (λ b. 1) r n id seats ≤ n
-  unfolding seatTotal
-  seats-few id seats =
-      omega (arith, sum-most n 1 (λ i. seatWeight (λ b. 1) id (r i .whd) (getD seats i unplaced)) (λ i h. light id (r i .whd) (getD seats i unplaced)))

@@ -1,6 +1,6 @@
 -- A list of boxes weighed: each box has a weight, and the list their sum. In how many boxes a cell lies is such a sum, and so is how
 -- many boxes do not lie inside.
-use Prim.Native.Nat.{ℕ, zero, suc, _+_, _≤_, _<_}
+use Prim.Native.Nat.{ℕ, zero, suc, _+_, _<_}
 use mathlib.Core.Path.{_≡_, refl, sym, ap, ap₂, _∙_}
 use mathlib.Core.Logic.{_⊎_, inl, inr}
 use mathlib.Core.List.{List, [], _∷_, _++_, map}

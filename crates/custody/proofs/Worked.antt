@@ -1,6 +1,6 @@
 -- A run worked through: a pack that answers 7 and keeps an earlier group, a pack and a return refused by checks, a return, and a second pack.
 use Prim.Native.Nat.{ℕ}
-use mathlib.Core.Path.{_≡_, refl, sym, ap, _∙_, subst}
+use mathlib.Core.Path.{_≡_, refl, ap, subst}
 use mathlib.Core.List.{List, [], _∷_, _++_}
 use native.Mathlib.Omega.{arith}
 use lib.ListN.{replicate}
@@ -9,7 +9,6 @@ use Rattle.lists.specs.Pick.{picked}
 use Rattle.lists.specs.Sort.{insertBy, insertAll}
 use Rattle.lists.specs.Sum.{sumTo}
 use Rattle.lists.specs.Tab.{tab, removeAt, put}
-use Rattle.bin_section.specs.declared.reply.Reply.{Reply}
 use Rattle.bin_section.specs.declared.section.BinSection.{BinSection}
 use Rattle.bin_section.specs.Sides.{sides, sideOk}
 use Rattle.bin_section.specs.Section.{section, sectionAt}
@@ -22,9 +21,9 @@ use Rattle.try_place.specs.Splits.{sixSplits}
 use Rattle.try_place.specs.Choice.{chosen, ranksOf, bestOf, bestFrom, laterOf, betterOf}
 use Rattle.try_place.specs.Try.{fitOf}
 use Rattle.try_place.specs.Appended.{larger, keptOne, kept, appendedOf}
-use Rattle.target_bin.specs.Chambers.{chamberAt, chamberOf, chambersOf}
+use Rattle.target_bin.specs.Chambers.{chamberAt, chambersOf, chamberOf}
 use Rattle.target_bin.specs.Checks.{lengthsOk, idOk, shapeOk, chamberOk, badSections}
-use Rattle.target_bin.specs.Store.{partAt, freeAt, freeOf, partOf, storeOf}
+use Rattle.target_bin.specs.Store.{partAt, freeAt, freeOf, partOf}
 use Rattle.target_bin.specs.Outcome.{Outcome, outcome}
 use Rattle.target_bin.specs.Fresh.{freshTable, freshStore, freshOf}
 use Rattle.target_bin.specs.Return.{pushChecks, returnChecks, returned, returnOf}
@@ -38,7 +37,7 @@ use Rattle.rectangle_pack.specs.Packing.{rectsAt, trialIn, firstWhole, changed,
 use Rattle.rectangle_pack.specs.Pack.{rectLengthsOk, noRoom, rectChecks, packChecks, start, packing, binsWith, PackOutcome, packOutcome, written, packOf}
 use Rattle.audit.specs.Audit as audit
 use Rattle.custody.specs.Ledger.{placedIn, boxOf, newBoxes, places, Ledger, nothing, afterPack, In, first, sameBox, takenOut, afterReturn}
-use Rattle.custody.specs.Run.{Hall, hallOf, freshHall, packed, takenBack, Run, fresh, packs, returns, auditAt, AuditAccepts}
+use Rattle.custody.specs.Run.{Hall, hallOf, Run, fresh, packs, returns, auditAt, AuditAccepts}
 use Rattle.custody.proofs.Custody.{custody}
 
 abbrev box : ℕ → ℕ → ℕ → ℕ → ℕ → ℕ → BinSection

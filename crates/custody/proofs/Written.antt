@@ -1,7 +1,7 @@
 -- Tables written anew from lists of free sections: what stands in them, and that they are sound.
-use Prim.Native.Nat.{ℕ, zero, suc, _+_, _*_, _/_, _≤_, _<_}
-use mathlib.Core.Path.{_≡_, refl, sym, ap, ap₂, _∙_}
-use mathlib.Core.List.{List, [], _∷_}
+use Prim.Native.Nat.{ℕ, suc, _*_, _≤_, _<_}
+use mathlib.Core.Path.{_≡_, refl, sym, ap, _∙_}
+use mathlib.Core.List.{List, []}
 use native.Mathlib.Omega.{arith}
 use lib.ListN.{length, getD}
 use lib.Seq.{ext-getD}
@@ -10,7 +10,6 @@ use Rattle.lists.specs.Sort.{Each}
 use Rattle.lists.proofs.Sorts.{each-at}
 use Rattle.lists.proofs.Tabs.{length-tab, getD-tab}
 use Rattle.bin_section.specs.declared.section.BinSection.{BinSection}
-use Rattle.bin_section.specs.declared.width_height_depth.WidthHeightDepth.{WidthHeightDepth}
 use Rattle.bin_section.specs.Section.{zeroSection, sectionAt}
 use Rattle.bin_section.specs.Sides.{sides}
 use Rattle.cells.specs.Whole.{Inside}

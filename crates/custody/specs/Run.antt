@@ -52,6 +52,18 @@ pub data Run : Hall → Type 0 where
       → (returnOf (hall .chambers) (hall .store) id box .reply .number ≡ 0 → In box (hall .ledger id))
       → Run (takenBack hall id box)
 
+-- the chamber table that the run began with
+unfoldable pub begunWith : {hall : Hall} → Run hall → List ℕ
+begunWith (fresh chambers store done) = chambers
+begunWith (packs before rects placements) = begunWith before
+begunWith (returns before id box there) = begunWith before
+
+-- two tables have the same chambers: as many, and each with its id and its sides
+pub record SameChambers (a b : List ℕ) : Type 0 where
+  pub many : chamberCount b ≡ chamberCount a
+  pub ids : (k : ℕ) → k < chamberCount a → chamberAt b k .id ≡ chamberAt a k .id
+  pub sides : (k : ℕ) → k < chamberCount a → chamberAt b k .whd ≡ chamberAt a k .whd
+
 -- "every box placed there and not yet taken back", of the chamber at an index
 abbrev pub placedAt : Hall → ℕ → List BinSection
 placedAt hall k = hall .ledger (chamberAt (hall .chambers) k .id)
@@ -67,7 +79,7 @@ auditAt hall k =
     auditOf (chamberAt (hall .chambers) k .whd) (allWords (placedAt hall k)) (take (freeCount hall k * 6) (partAt (hall .store) k))
 
 -- "it accepts each chamber's free sections with every box placed there and not yet taken back, up to 1,024 boxes". That every run ends so
--- is `custody` (proofs/Custody.antt).
+-- is `custody` (proofs/Custody.antt); that the chambers are those it began with is `chambers-stay` there.
 pub record AuditAccepts (hall : Hall) : Type 0 where
   pub at :
       (k : ℕ)
