@@ -2,7 +2,6 @@
 use Prim.Native.Nat.{ℕ, _+_, _*_, _≤_, _<_}
 use mathlib.Core.List.{List}
 use lib.ListN.{length, getD}
-use Rattle.lists.specs.Tab.{tab}
 use Rattle.bin_section.specs.Sides.{sides, Small}
 use Rattle.grouped_rects_to_place.specs.declared.rect_to_place.RectToPlace.{RectToPlace}
 
@@ -14,10 +13,6 @@ rectAt w i =
       group = getD w (i * 5 + 1) 0;
       whd = sides (getD w (i * 5 + 2) 0) (getD w (i * 5 + 3) 0) (getD w (i * 5 + 4) 0);
     }
-
--- the first n rectangles of the table
-abbrev pub rectsOf : List ℕ → ℕ → List RectToPlace
-rectsOf w n = tab n (rectAt w)
 
 -- ---- What the code may lean on.
 

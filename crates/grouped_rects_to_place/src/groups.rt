@@ -6,7 +6,7 @@ ghost use Rattle.grouped_rects_to_place.specs.Rect.{HasRect, HasRects, G
 ghost use Rattle.grouped_rects_to_place.specs.Groups.{sameGroup, leadOf, share, groupVolume, members, Listed, Pushed};
 use crate::rect_to_place::RectToPlace;
 
-// A rectangle with no group is a group of one; its number is its rectangle id, as the Rust's code has it.
+// A rectangle with no group is a group of one.
 pub fn same_group(rects: &[u32], i: usize, j: usize) -> bool
     requires { ⌜ HasRect (now rects) i × HasRect (now rects) j ⌝ }
     ensures { λ r. ⌜ r ≡ sameGroup (rectAt (now (rects .entry))) i j ⌝ }

@@ -1,4 +1,4 @@
--- Checks 1, 2 and 3, which every job on the tables makes first.
+-- Checks 1, 2 and 3. Fresh makes 1 and 2 without the counts; pack and return make all three first.
 use Prim.Native.Nat.{ℕ, zero, suc, _*_, _%_, _≤_, _<_}
 use mathlib.Core.Path.{_≡_}
 use mathlib.Core.List.{List, [], _∷_}

@@ -2,7 +2,6 @@
 mod chamber;
 mod checks;
 mod freshen;
-mod lend;
 mod push_available_bin_section;
 mod returns;
 
@@ -14,6 +13,4 @@ pub use checks::first_bad_section;
 pub use checks::first_bad_shape;
 pub use checks::lengths_ok;
 pub use freshen::fresh;
-pub use lend::append_in_chamber;
-pub use lend::remove_in_chamber;
 pub use returns::return_section;
