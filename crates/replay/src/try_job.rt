@@ -14,10 +14,14 @@ pub const JOB_WORDS: usize = 10;
 // Its own length, reply, detail, location, three sections.
 pub const ANSWER_WORDS: usize = 24;
 
+// The words of the answer with its length; 0 where the job is none.
 pub fn answer(job: &[u32], answer: &mut [u32]) -> usize
-    requires { ⌜ (10 ≤ length (now job)) × (24 ≤ length (now answer)) ⌝ }
-    ensures { λ n. ⌜ n ≡ 24 ⌝ }
+    requires { ⌜ 24 ≤ length (now answer) ⌝ }
+    ensures { λ m. ⌜ m ≤ 24 ⌝ }
 {
+    if job.len() != JOB_WORDS {
+        return 0;
+    }
     let tried = tried(job);
     let placement = tried.answer;
     write_head(answer, placement.reply(), placement.location());

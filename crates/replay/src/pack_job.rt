@@ -1,0 +1,120 @@
+// A pack: tables and rectangles in, reply, detail, placements, tables and stray out.
+ghost use mathlib.Core.Path.{_≡_};
+ghost use Prim.Native.Nat.{_*_, _≤_};
+ghost use lib.ListN.{length};
+use crate::tables::MARK;
+use crate::tables::put_reply;
+use crate::tables::put_tables;
+use crate::tables::take_tables;
+use crate::words::fill;
+use crate::words::put_words;
+use crate::words::wide;
+use bin_section::Reply;
+use grouped_rects_to_place::RectToPlace;
+use rectangle_pack::pack;
+
+// The words of the placement table, and of the rectangle table.
+pub const MOST_WORDS: usize = RectToPlace::MOST * RectToPlace::WORDS;
+// What stands in the placement table before a job.
+const UNPLACED: u32 = 0xfeed_f00d;
+// The replies of a pack that was not refused by a check.
+const PACKED: u32 = 0;
+
+const NO_ROOM: u32 = 7;
+
+// The words of the answer with its length; 0 where the job is none.
+pub fn answer(
+    job: &[u32],
+    chambers: &mut [u32],
+    store: &mut [u32],
+    c: usize,
+    placements: &mut [u32],
+    answer: &mut [u32],
+) -> usize
+    requires { ⌜ (2 ≤ length (now job)) × (c ≤ 16) × (length (now chambers) ≡ c * 5) × (length (now store) ≡ c * 768) × (length (now placements) ≡ 315) × (length (now answer) ≡ 16384) ⌝ }
+    ensures { λ m. ⌜ m ≤ 16384 ⌝ }
+{
+    let place = take_tables(job, chambers, store, c);
+    if place == 0 {
+        return 0;
+    }
+    let words = rect_words(job, place);
+    if job.len() - place != words + 1 {
+        return 0;
+    }
+    let start = place + 1;
+    let end = job.len();
+    answer_rects(
+        &job[start..end],
+        chambers,
+        store,
+        c,
+        &mut placements[0..words],
+        answer,
+    )
+}
+
+// The words of the rectangles.
+fn rect_words(job: &[u32], place: usize) -> usize
+    requires { ⌜ place ≤ length (now job) ⌝ }
+    ensures { λ r. ⌜ r ≤ 315 ⌝ }
+{
+    if job.len() <= place {
+        return 0;
+    }
+    let n = wide(job[place]);
+    if RectToPlace::MOST < n {
+        return 0;
+    }
+    n * RectToPlace::WORDS
+}
+
+fn answer_rects(
+    rects: &[u32],
+    chambers: &mut [u32],
+    store: &mut [u32],
+    c: usize,
+    placements: &mut [u32],
+    answer: &mut [u32],
+) -> usize
+    requires { ⌜ (c ≤ 16) × (length (now chambers) ≡ c * 5) × (length (now store) ≡ c * 768) × (length (now answer) ≡ 16384) ⌝ }
+    ensures { λ m. ⌜ m ≤ 16384 ⌝ }
+{
+    let reply = packed(rects, chambers, store, placements);
+    put_packed(answer, reply, placements, chambers, store, c)
+}
+
+fn packed(rects: &[u32], chambers: &mut [u32], store: &mut [u32], placements: &mut [u32]) -> Reply {
+    fill(placements, UNPLACED);
+    pack(chambers, store, rects, placements)
+}
+
+fn put_packed(
+    answer: &mut [u32],
+    reply: Reply,
+    placements: &[u32],
+    chambers: &[u32],
+    store: &[u32],
+    c: usize,
+) -> usize
+    requires { ⌜ (c ≤ 16) × (length (now chambers) ≡ c * 5) × (length (now store) ≡ c * 768) × (length (now answer) ≡ 16384) ⌝ }
+    ensures { λ m. ⌜ m ≤ 16384 ⌝ }
+{
+    let wanted = past_counts(reply.number);
+    let placed = put_reply(answer, reply);
+    let tables = put_words(answer, placed, placements.len(), placements, 0);
+    put_tables(answer, tables, chambers, store, c, wanted)
+}
+
+// What has to stand in the store past the counts: a pack that answers 0 or 7 clears it, any other leaves it.
+fn past_counts(number: u32) -> u32
+    ensures { λ r. ⌜ (number ≡ 0 → r ≡ 0) × (number ≡ 7 → r ≡ 0) ⌝ }
+{
+    if number == PACKED {
+        return 0;
+    }
+    if number == NO_ROOM {
+        return 0;
+    }
+    MARK
+}

@@ -1,0 +1,141 @@
+// The tables of a return and of a pack: taken from the job, marked before it, put to the answer after it.
+ghost use mathlib.Core.Path.{_≡_};
+ghost use Prim.Native.Nat.{_+_, _*_, _≤_, _<_};
+ghost use lib.ListN.{length};
+use crate::words::count_others;
+use crate::words::fill;
+use crate::words::put_word;
+use crate::words::put_words;
+use crate::words::take_words;
+use bin_section::BinSection;
+use bin_section::Reply;
+use target_bin::TargetBin;
+
+// What stands in the store past the counts before a job.
+pub const MARK: u32 = 0xdead_beef;
+// The tables follow the kind and the number of chambers.
+const TABLES: usize = 2;
+// The answer's first word is its length.
+const REPLY: usize = 1;
+
+// Takes c chambers and their sections from the job. The next place, or 0 where they are no tables.
+pub fn take_tables(job: &[u32], chambers: &mut [u32], store: &mut [u32], c: usize) -> usize
+    requires { ⌜ (2 ≤ length (now job)) × (c ≤ 16) × (length (now chambers) ≡ c * 5) × (length (now store) ≡ c * 768) ⌝ }
+    ensures { λ r. ⌜ r ≤ length (now (job .entry)) ⌝ }
+{
+    fill(store, MARK);
+    let mut place = take_words(job, TABLES, c * TargetBin::WORDS, chambers, 0);
+    let mut k = 0;
+    while k < c {
+        place = take_sections(job, place, chambers, store, k);
+        k += 1;
+    }
+    place
+}
+
+// Takes the counted sections of chamber k.
+fn take_sections(job: &[u32], place: usize, chambers: &[u32], store: &mut [u32], k: usize) -> usize
+    requires { ⌜ (k < 16) × (place ≤ length (now job)) × (k * 5 + 5 ≤ length (now chambers)) × (k * 768 ≤ length (now store)) ⌝ }
+    ensures { λ r. ⌜ r ≤ length (now (job .entry)) ⌝ }
+{
+    if place == 0 {
+        return 0;
+    }
+    let words = section_words(chambers, k);
+    if TargetBin::STORE < words {
+        return 0;
+    }
+    take_words(job, place, words, store, k * TargetBin::STORE)
+}
+
+// The words of the counted sections of chamber k.
+fn section_words(chambers: &[u32], k: usize) -> usize
+    requires { ⌜ k * 5 + 5 ≤ length (now chambers) ⌝ }
+    ensures { λ r. ⌜ r ≤ 25769803770 ⌝ }
+{
+    let bin = TargetBin::read(chambers, k);
+    (bin.count as usize) * BinSection::WORDS
+}
+
+// Puts reply and detail. The next place, or 0.
+pub fn put_reply(answer: &mut [u32], reply: Reply) -> usize
+    ensures { λ r. ⌜ r ≤ length (now (answer .entry)) ⌝ }
+{
+    let place = put_word(answer, REPLY, reply.number);
+    put_word(answer, place, reply.detail)
+}
+
+// Puts the tables and the number of stray words, and the length before all. The words of the answer, or 0.
+pub fn put_tables(
+    answer: &mut [u32],
+    place: usize,
+    chambers: &[u32],
+    store: &[u32],
+    c: usize,
+    wanted: u32,
+) -> usize
+    requires { ⌜ (place ≤ length (now answer)) × (length (now answer) ≤ 65536) × (c ≤ 16) × (length (now chambers) ≡ c * 5) × (length (now store) ≡ c * 768) ⌝ }
+    ensures { λ r. ⌜ r ≤ length (now (answer .entry)) ⌝ }
+{
+    let chambers_end = put_words(answer, place, c * TargetBin::WORDS, chambers, 0);
+    let sections_end = put_sections(answer, chambers_end, chambers, store, c);
+    let stray = count_stray(chambers, store, c, wanted);
+    let end = put_word(answer, sections_end, stray);
+    put_length(answer, end)
+}
+
+// Puts the counted sections of each chamber.
+fn put_sections(
+    answer: &mut [u32],
+    start: usize,
+    chambers: &[u32],
+    store: &[u32],
+    c: usize,
+) -> usize
+    requires { ⌜ (start ≤ length (now answer)) × (c ≤ 16) × (c * 5 ≤ length (now chambers)) × (c * 768 ≤ length (now store)) ⌝ }
+    ensures { λ r. ⌜ r ≤ length (now (answer .entry)) ⌝ }
+{
+    let mut place = start;
+    let mut k = 0;
+    while k < c {
+        let words = section_words(chambers, k);
+        place = put_words(answer, place, words, store, k * TargetBin::STORE);
+        k += 1;
+    }
+    place
+}
+
+// How many words of the store past the counts are not the wanted one.
+fn count_stray(chambers: &[u32], store: &[u32], c: usize, wanted: u32) -> u32
+    requires { ⌜ (c ≤ 16) × (c * 5 ≤ length (now chambers)) × (c * 768 ≤ length (now store)) ⌝ }
+{
+    let mut stray = 0;
+    let mut k = 0;
+    while k < c {
+        stray += count_stray_in(chambers, store, k, wanted);
+        k += 1;
+    }
+    stray as u32
+}
+
+fn count_stray_in(chambers: &[u32], store: &[u32], k: usize, wanted: u32) -> usize
+    requires { ⌜ (k < 16) × (k * 5 + 5 ≤ length (now chambers)) × (k * 768 + 768 ≤ length (now store)) ⌝ }
+    ensures { λ r. ⌜ r ≤ 768 ⌝ }
+{
+    let counted = section_words(chambers, k);
+    let start = k * TargetBin::STORE;
+    let end = start + TargetBin::STORE;
+    count_others(&store[start..end], counted, wanted)
+}
+
+// Puts how many words follow the first one.
+fn put_length(answer: &mut [u32], end: usize) -> usize
+    requires { ⌜ (end ≤ length (now answer)) × (end ≤ 65536) ⌝ }
+    ensures { λ r. ⌜ r ≡ end ⌝ }
+{
+    if end == 0 {
+        return 0;
+    }
+    answer[0] = (end - 1) as u32;
+    end
+}
