@@ -1,4 +1,5 @@
 pub mod Means
+pub mod Places
 pub mod Replying
 pub mod Summing
 pub mod Tests

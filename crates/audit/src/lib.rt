@@ -3,8 +3,10 @@ ghost use mathlib.Core.Path.{_≡_};
 ghost use Prim.Native.Nat.{_+_, _*_, _/_, _%_, _<_};
 ghost use lib.ListN.{length, take, drop};
 ghost use mathlib.Core.List.{_++_};
+ghost use denote.Ref.{ptr};
 ghost use Rattle.bin_section.specs.Replies.{reply};
 ghost use Rattle.audit.specs.Audit.{lengthsOk, auditReply, audited, auditOf};
+ghost use Rattle.audit.specs.Place.{LiesAt, ShownAt};
 
 mod boxes;
 mod checks;
@@ -73,7 +75,7 @@ fn reply_of(whd: WidthHeightDepth, placed: &[u32], free: &[u32]) -> Reply
 // The six words of box i where they lie: in the placed list, or past its boxes in the free list.
 fn words_of_box<'a>(placed: &'a [u32], free: &'a [u32], i: usize) -> &'a [u32]
     requires { ⌜ (length (now placed) % 6 ≡ 0) × (i < length (now placed) / 6 + length (now free) / 6) ⌝ }
-    ensures { λ r. ⌜ now r ≡ take 6 (drop (i * 6) (now (placed .entry) ++ now (free .entry))) ⌝ }
+    ensures { λ r. ⌜ (now r ≡ take 6 (drop (i * 6) (now (placed .entry) ++ now (free .entry)))) × LiesAt (length (now (placed .entry)) / 6) (ptr (placed .entry)) (ptr (free .entry)) i (ptr r) ⌝ }
 {
     let first = boxes_in(placed);
     if i < first {
@@ -94,7 +96,7 @@ pub fn audit<'a>(
     number: &mut u32,
     detail: &mut u32,
 ) -> &'a [u32]
-    ensures { λ r. ⌜ audited (reply (now (number .exit)) (now (detail .exit))) (now r) ≡ auditOf whd (now (placed .entry)) (now (free .entry)) ⌝ }
+    ensures { λ r. ⌜ (audited (reply (now (number .exit)) (now (detail .exit))) (now r) ≡ auditOf whd (now (placed .entry)) (now (free .entry))) × ShownAt (length (now (placed .entry)) / 6) (ptr (placed .entry)) (ptr (free .entry)) (reply (now (number .exit)) (now (detail .exit))) (ptr r) ⌝ }
 {
     let answer = reply_of(whd, placed, free);
     *number = answer.number;

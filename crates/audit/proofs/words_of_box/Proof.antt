@@ -1,6 +1,8 @@
 use denote.Ref.{now}
+use mathlib.Core.Path.{refl}
 use native.Mathlib.Omega.{arith}
 use Rattle.audit.proofs.TwoLists.{six, words-placed, words-free}
+use Rattle.audit.proofs.Places.{lies-placed, lies-free}
 use borrow.Author.Needs.{needs}
 use Rattle.audit.proofs.words_of_box.Statement.{statement}
 use Rattle.audit.proofs.words_of_box.Tie as tie
@@ -27,7 +29,7 @@ part-result-end : tie.Need-part-result-end
 part-result-end c = search needs
 
 returns : tie.Need-returns
-returns c = let a = c .before .before .before .before .before .args in rw six (words-placed (now (a .placed)) (now (a .free)) (a .i) (omega arith))
+returns c = let a = c .before .before .before .before .before .args in (rw six (words-placed (now (a .placed)) (now (a .free)) (a .i) (omega arith)), lies-placed _ _ _ _ _ (omega arith) refl refl)
 
 mul-at-2 : tie.Need-mul-at-2
 mul-at-2 c = search needs
@@ -48,7 +50,7 @@ part-result-end-2 : tie.Need-part-result-end-2
 part-result-end-2 c = search needs
 
 returns-2 : tie.Need-returns-2
-returns-2 c = let s = c .before .before .before .before .before in let a = s .args in rw six (words-free (now (a .placed)) (now (a .free)) (a .i) _ (s .pre .0) (c .before .before .boxes-in .ensures) (c .before .if1 .left))
+returns-2 c = let s = c .before .before .before .before .before in let a = s .args in (rw six (words-free (now (a .placed)) (now (a .free)) (a .i) _ (s .pre .0) (c .before .before .boxes-in .ensures) (c .before .if1 .left)), lies-free _ _ _ _ _ _ (c .before .before .boxes-in .ensures) (c .before .if1 .left) refl refl)
 
 pub words-of-box-spec : {M : Type 1} → statement M
 words-of-box-spec =

@@ -14,7 +14,7 @@ audit-requires : tie.Need-audit-requires
 audit-requires c κs = search needs
 
 returns : tie.Need-returns
-returns c = let a = c .before .before .before .before .before .before .args in answer-of _ _ _ _ _ (c .audit .ensures) ∙ ap (λ (w : WidthHeightDepth). auditReply w (now (a .placed)) (now (a .free))) (c .before .before .before .new .ensures)
+returns c = let a = c .before .before .before .before .before .before .args in answer-of _ _ _ _ _ (c .audit .ensures .0) ∙ ap (λ (w : WidthHeightDepth). auditReply w (now (a .placed)) (now (a .free))) (c .before .before .before .new .ensures)
 
 pub cafunderi-audit-spec : {M : Type 1} → statement M
 cafunderi-audit-spec = tie.close (tie.spec new-requires audit-requires returns)

@@ -11,7 +11,7 @@ new-requires : tie.Need-new-requires
 new-requires c κs = search needs
 
 returns : tie.Need-returns
-returns c = c .new .ensures ∙ answer-of _ _ _ _ _ (c .before .audit .ensures)
+returns c = c .new .ensures ∙ answer-of _ _ _ _ _ (c .before .audit .ensures .0)
 
 pub audit-reply-spec : {M : Type 1} → statement M
 audit-reply-spec = tie.close (tie.spec audit-requires new-requires returns)
