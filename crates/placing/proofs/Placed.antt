@@ -18,7 +18,7 @@ use Rattle.try_place.specs.Appended.{appendedOf}
 use Rattle.try_place.proofs.Remaining.{ThreeWithin, placed-within, placed-three, placed-small}
 use Rattle.placing.specs.declared.place.Spot.the-variants.{At, Nowhere}
 use Rattle.placing.specs.Added.{Replaced}
-use Rattle.placing.specs.Rules.{placed}
+use Rattle.placing.specs.Rules.{nowhere, placed}
 use Rattle.placing.specs.Place.{Reaching, PlacedIn}
 use Rattle.placing.proofs.Finding.{Tried, tried-placed, tried-all}
 use Rattle.placing.proofs.Reaches.{still-reaching}
@@ -36,6 +36,9 @@ module _ (s : BinSection) (r : RectToInsert) (t : Try.Tried) (l : PackedLocation
   three-of : length (t .sections) ≡ 3
   three-of = rw f (placed-three s r l p answer-is)
 
+never : {l : PackedLocation} {free : List BinSection} → placed l free ≡ nowhere → ⊥
+never e = let z : _≡_ {A = ℕ} 0 1 = cc in omega arith
+
 module _ (count : ℕ) (r : RectToInsert) (w : List ℕ) (reach : Reaching count w) (i : ℕ) (done : Tried count r w i) where
   pub placed-here :
       (w′ : List ℕ) (n : ℕ) (t : Try.Tried) (l : PackedLocation)
@@ -51,8 +54,9 @@ module _ (count : ℕ) (r : RectToInsert) (w : List ℕ) (reach : Reaching count
             ∙ tried-placed count r w i l done h (answer-is _ r t l p f a);
         room = q .room;
         zeros = q .zeros;
+        none = λ z. absurd (never (tried-placed count r w i l done h (answer-is _ r t l p f a) ∙ z));
         reaching = still-reaching count (i - 1) n (sectionAt w (i - 1)) (t .sections) w w′ reach p (three-of _ r t l p f a) (within-of _ r t l p f a) (q .free);
       }
 
   pub placed-nowhere : i ≤ 0 → PlacedIn count r (record { spot = Nowhere; count = count }) w w
-  placed-nowhere h = record { answer = tried-all count r w i done h; room = omega arith; zeros = λ z. z; reaching = reach }
+  placed-nowhere h = record { answer = tried-all count r w i done h; room = omega arith; zeros = λ z. z; reaching = reach; none = λ z. (refl, refl) }

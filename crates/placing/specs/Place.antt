@@ -22,9 +22,10 @@ abbrev pub oneOf : Spot → List BinSection → One
 oneOf (At l) free = placed l free
 oneOf Nowhere free = nowhere
 
--- one more than before is the most that stays: at most two sections more; where none fits, no word changes
+-- the answer and the sections afterwards are those of the rules; at most two sections more; where none fits, no word changes
 pub record PlacedIn (count : ℕ) (r : RectToInsert) (p : Placed) (w w′ : List ℕ) : Type 0 where
   pub answer : oneOf (p .spot) (sections w′ (p .count)) ≡ placeOne (sections w count) r
   pub room : p .count ≤ count + 2
   pub zeros : ZeroPast count w → ZeroPast (p .count) w′
   pub reaching : Reaching (p .count) w′
+  pub none : placeOne (sections w count) r ≡ nowhere → (p .count ≡ count) × (w′ ≡ w)

@@ -1,10 +1,11 @@
 -- Laws of a try: which case each row of checks leads to, and what a section and a rectangle that pass them have.
 use Prim.Native.Nat.{ℕ, _≤_, _<_, _+_}
-use mathlib.Core.Path.{_≡_, refl}
-use mathlib.Core.Bool.{Bool, true, false, _&&_}
+use mathlib.Core.Path.{_≡_, refl, ap, _∙_}
+use mathlib.Core.List.{[], _∷_}
+use mathlib.Core.Bool.{Bool, true, false, _&&_, not, cond}
 use native.Mathlib.Omega.{arith}
 use borrow.Author.Tests.{lt-ltb, le-ltb, leb-true}
-use lib.Dec.{leb}
+use lib.Dec.{leb, ltb}
 use Rattle.lists.proofs.Flags.{and-first, and-second}
 use Rattle.bin_section.specs.declared.rect_to_insert.RectToInsert.{RectToInsert}
 use Rattle.bin_section.specs.declared.section.BinSection.{BinSection}
@@ -15,10 +16,12 @@ use Rattle.try_place.specs.declared.Placement.the-variants.{
   PlacementTallerThanBinSection,
   PlacementDeeperThanBinSection,
 }
+use Rattle.bin_section.specs.Replies.{reply, once, inOrder}
 use Rattle.bin_section.specs.Sides.{sideOk, sidesOk}
+use Rattle.try_place.specs.declared.Tried.{Tried}
 use Rattle.try_place.specs.Splits.{Fitting, sixSplits}
 use Rattle.try_place.specs.Choice.{SmallSplits}
-use Rattle.try_place.specs.Try.{spanOk, sectionOk, Reachable, refusedOf, placedOf, fitOf, tryOf}
+use Rattle.try_place.specs.Try.{spanOk, sectionOk, Reachable, refusedOf, placedOf, fitOf, tryOf, tryChecks, numberOf}
 
 span-end : (o s : ℕ) → spanOk o s ≡ true → o + s ≤ 65535
 unfolding spanOk
@@ -81,3 +84,33 @@ module _ (s : BinSection) (r : RectToInsert) where
       pub fit-placed : r .whd .depth ≤ s .whd .depth → placedOf s r ≡ fitOf s r
       unfolding fitOf
       fit-placed d = rw (le-ltb _ _ w, le-ltb _ _ h, le-ltb _ _ d)
+
+-- the numbers of the answers are those of the checks in their order
+by-number :
+    (a b w h d : Bool) (t : Tried)
+    → numberOf (t .answer) ≡ 0
+    → reply
+    (numberOf
+    (cond a (refusedOf BadSection)
+    (cond b (refusedOf BadRectangle)
+    (cond w (refusedOf PlacementWiderThanBinSection)
+    (cond h (refusedOf PlacementTallerThanBinSection) (cond d (refusedOf PlacementDeeperThanBinSection) t)))) .answer))
+    0
+    ≡ inOrder (once 3 a ∷ once 4 b ∷ once 12 w ∷ once 13 h ∷ once 14 d ∷ []) (λ x. x) (reply 0 0)
+unfolding inOrder
+by-number true b w h d t e = refl
+by-number false true w h d t e = refl
+by-number false false true h d t e = refl
+by-number false false false true d t e = refl
+by-number false false false false true t e = refl
+by-number false false false false false t e = ap (λ (n : ℕ). reply n 0) e
+
+pub try-numbers :
+    (s : BinSection) (r : RectToInsert) (t : Tried)
+    → t ≡ tryOf s r
+    → reply (numberOf (t .answer)) 0 ≡ inOrder (tryChecks s r) (λ a. a) (reply 0 0)
+unfolding tryOf fitOf tryChecks
+try-numbers s r t e =
+    ap (λ (u : Tried). reply (numberOf (u .answer)) 0) e
+    ∙ by-number (not (sectionOk s)) (not (sidesOk (r .whd))) (ltb (s .whd .width) (r .whd .width)) (ltb (s .whd .height) (r .whd .height))
+    (ltb (s .whd .depth) (r .whd .depth)) (placedOf s r) refl

@@ -17,6 +17,7 @@ use Rattle.try_place.specs.declared.Placement.the-variants.{
   PlacementTallerThanBinSection,
   PlacementDeeperThanBinSection,
 }
+use Rattle.bin_section.specs.Replies.{Check, once}
 use Rattle.bin_section.specs.Sides.{sides, sideOk, sidesOk}
 use Rattle.bin_section.specs.Section.{zeroSection}
 use Rattle.try_place.specs.Splits.{sixSplits}
@@ -61,6 +62,16 @@ numberOf BadRectangle = 4
 numberOf PlacementWiderThanBinSection = 12
 numberOf PlacementTallerThanBinSection = 13
 numberOf PlacementDeeperThanBinSection = 14
+
+-- the same checks by their numbers, in their order: "Try: 3 (..), 4, 12, 13, 14."
+unfoldable pub tryChecks : BinSection → RectToInsert → List Check
+tryChecks s r =
+    once 3 (not (sectionOk s))
+    ∷ once 4 (not (sidesOk (r .whd)))
+    ∷ once 12 (ltb (s .whd .width) (r .whd .width))
+    ∷ once 13 (ltb (s .whd .height) (r .whd .height))
+    ∷ once 14 (ltb (s .whd .depth) (r .whd .depth))
+    ∷ []
 
 abbrev pub zeroLocation : PackedLocation
 zeroLocation = record { x = 0; y = 0; z = 0; whd = sides 0 0 0 }

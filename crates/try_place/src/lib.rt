@@ -1,8 +1,8 @@
 // Try one placement: a rectangle in the corner of a section, and what remains.
 ghost use mathlib.Core.Path.{_≡_};
 ghost use Rattle.try_place.specs.Splits.{Fitting};
-ghost use Rattle.try_place.specs.Try.{spanOk, sectionOk, Reachable, refusedOf, placedOf, fitOf, tryOf, numberOf, locationOf};
-ghost use Rattle.bin_section.specs.Replies.{reply};
+ghost use Rattle.try_place.specs.Try.{spanOk, sectionOk, Reachable, refusedOf, placedOf, fitOf, tryOf, tryChecks, numberOf, locationOf};
+ghost use Rattle.bin_section.specs.Replies.{reply, inOrder};
 
 mod choice;
 mod packed_location;
@@ -128,7 +128,7 @@ fn span_ok(origin: u32, side: u32) -> bool
 
 // Try one placement, for any section and any rectangle.
 pub fn try_placement(section: BinSection, rectangle: RectToInsert) -> Tried
-    ensures { λ t. ⌜ t ≡ tryOf section rectangle ⌝ }
+    ensures { λ t. ⌜ (t ≡ tryOf section rectangle) × (reply (numberOf (t .answer)) 0 ≡ inOrder (tryChecks section rectangle) (λ a. a) (reply 0 0)) ⌝ }
 {
     if !in_range(section) {
         return refused(Placement::BadSection);
