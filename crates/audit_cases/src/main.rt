@@ -2,7 +2,7 @@
 // For each it writes the line. It ends with the input, or at a length that is too large.
 ghost use mathlib.Core.Path.{_≡_};
 ghost use lib.ListN.{length};
-use audit_input::audit_line;
+use audit_input::{AuditInput, audit_line};
 
 const WORD: usize = 4;
 
@@ -48,7 +48,7 @@ fn one_case(bytes: &mut [u8]) -> bool
 
 // Audits an input and writes its line.
 fn answer(bytes: &[u8]) {
-    let mut line = [0u8; 19];
+    let mut line = [0u8; AuditInput::LINE];
     let r = audit_line(bytes, &mut line);
     io::write_all(1, &line[..r]);
 }

@@ -13,7 +13,7 @@ use bin_section::BinSection;
 use bin_section::Reply;
 use bin_section::WidthHeightDepth;
 
-const MOST_WORDS: usize = 6144;
+const MOST_WORDS: usize = ChamberAudit::MOST_BOXES * BinSection::WORDS;
 
 // The word at index i past the version byte.
 fn head_word(bytes: &[u8], i: usize) -> u32

@@ -29,7 +29,7 @@ impl AuditInput {
 }
 
 // The line for an input, as the whole of it was read.
-pub fn audit_line(bytes: &[u8], line: &mut [u8; 19]) -> usize
+pub fn audit_line(bytes: &[u8], line: &mut [u8; AuditInput::LINE]) -> usize
     ensures { λ r. ⌜ Wrote (lineOf (now (bytes .entry))) (now (line .entry)) (now (line .exit)) r ⌝ }
 {
     let answer = reply_of(bytes);

@@ -1,8 +1,8 @@
 // The audit program: reads one input from standard input, and writes its line to standard output.
-use audit_input::audit_line;
+use audit_input::{AuditInput, audit_line};
 
 // One byte past the longest valid input: what is longer still gets the same line (`cut-line` of the library's proofs).
-const MOST_READ: usize = 24602;
+const MOST_READ: usize = AuditInput::MOST + 1;
 
 fn main() {
     let mut bytes = [0u8; MOST_READ];
@@ -12,7 +12,7 @@ fn main() {
 
 // Audits an input and writes its line.
 fn answer(bytes: &[u8]) {
-    let mut line = [0u8; 19];
+    let mut line = [0u8; AuditInput::LINE];
     let r = audit_line(bytes, &mut line);
     io::write_all(1, &line[..r]);
 }
