@@ -2,7 +2,8 @@
 // For each it writes the line. It ends with the input, or at a length that is too large.
 ghost use mathlib.Core.Path.{_≡_};
 ghost use lib.ListN.{length};
-use audit_input::{AuditInput, audit_line};
+use audit_input::AuditInput;
+use audit_input::audit_line;
 
 const WORD: usize = 4;
 

@@ -1,5 +1,6 @@
 // The audit program: reads one input from standard input, and writes its line to standard output.
-use audit_input::{AuditInput, audit_line};
+use audit_input::AuditInput;
+use audit_input::audit_line;
 
 // One byte past the longest valid input: what is longer still gets the same line (`cut-line` of the library's proofs).
 const MOST_READ: usize = AuditInput::MOST + 1;
