@@ -2,7 +2,8 @@
 ghost use mathlib.Core.Path.{_≡_};
 ghost use Rattle.bin_section.specs.Replies.{reply};
 
-// "Each reply is a number and a detail."
+// "Each reply is a number and a detail." It is laid out as in C: the C face returns it as cafunderi_reply.
+#[repr(C)]
 pub struct Reply {
     pub number: u32,
     pub detail: u32,

@@ -1,7 +1,8 @@
 // Sides and volume.
 ghost use mathlib.Core.Path.{_≡_};
 ghost use Prim.Native.Nat.{_≤_};
-ghost use Rattle.bin_section.specs.Sides.{sides, volumeOf, sideOk, sidesOk, Small};
+ghost use lib.ListN.{length};
+ghost use Rattle.bin_section.specs.Sides.{sides, sidesIn, volumeOf, sideOk, sidesOk, Small};
 
 pub struct WidthHeightDepth {
     pub width: u32,
@@ -12,6 +13,8 @@ pub struct WidthHeightDepth {
 impl WidthHeightDepth {
     // "Sides 1 to 65,535."
     pub const MOST_SIDE: u32 = 65535;
+    // The words of the sides: width, height, depth.
+    pub const WORDS: usize = 3;
 
     pub fn new(width: u32, height: u32, depth: u32) -> WidthHeightDepth
         ensures { λ r. ⌜ r ≡ sides width height depth ⌝ }
@@ -21,6 +24,14 @@ impl WidthHeightDepth {
             height,
             depth,
         }
+    }
+
+    // The sides in three words.
+    pub fn read(words: &[u32]) -> WidthHeightDepth
+        requires { ⌜ 3 ≤ length (now words) ⌝ }
+        ensures { λ r. ⌜ r ≡ sidesIn (now (words .entry)) ⌝ }
+    {
+        WidthHeightDepth::new(words[0], words[1], words[2])
     }
 
     // The volume, which fits 64 bits where no side is above 65,535. The Rust's volume_heuristic is this function.

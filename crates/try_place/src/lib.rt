@@ -33,6 +33,11 @@ pub struct Tried {
     pub sections: [BinSection; 3],
 }
 
+impl Tried {
+    // The words of a location and three sections.
+    pub const WORDS: usize = PackedLocation::WORDS + 3 * BinSection::WORDS;
+}
+
 impl Placement {
     fn number(self) -> u32
         ensures { λ n. ⌜ n ≡ numberOf self ⌝ }

@@ -7,3 +7,8 @@ pub struct PackedLocation {
     pub z: u32,
     pub whd: WidthHeightDepth,
 }
+
+impl PackedLocation {
+    // The words of a location: x, y, z.
+    pub const WORDS: usize = 3;
+}

@@ -1,0 +1,3 @@
+pub mod Try
+pub mod Return
+pub mod Audit

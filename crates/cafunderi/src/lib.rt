@@ -1,0 +1,84 @@
+// The C face: the five jobs for programs in other languages. include/cafunderi.h declares them.
+// A table is a pointer and a length in words. A job that takes its tables as the C face has them is called as it stands.
+ghost use mathlib.Core.Path.{_≡_};
+ghost use Rattle.target_bin.specs.Outcome.{outcome};
+ghost use Rattle.target_bin.specs.Fresh.{freshOf};
+ghost use Rattle.rectangle_pack.specs.Pack.{packOutcome, packOf};
+ghost use Rattle.cafunderi.specs.Try.{tryOutcome, tryFace};
+ghost use Rattle.cafunderi.specs.Return.{returnFace};
+ghost use Rattle.cafunderi.specs.Audit.{auditFace};
+
+mod try_words;
+
+use audit::audit;
+use bin_section::BinSection;
+use bin_section::Reply;
+use bin_section::WidthHeightDepth;
+use rectangle_pack::pack;
+use target_bin::fresh;
+use target_bin::return_section;
+use try_words::lengths_ok;
+use try_words::try_words;
+
+// Fresh chambers.
+#[no_mangle]
+pub extern "C" fn cafunderi_fresh(chambers: &mut [u32], store: &mut [u32]) -> Reply
+    ensures { λ r. ⌜ outcome r (now (chambers .exit)) (now (store .exit)) ≡ freshOf (now (chambers .entry)) (now (store .entry)) ⌝ }
+{
+    fresh(chambers, store)
+}
+
+// Try one placement.
+#[no_mangle]
+pub extern "C" fn cafunderi_try(section: &[u32], rectangle: &[u32], placed: &mut [u32]) -> Reply
+    ensures { λ r. ⌜ tryOutcome r (now (placed .exit)) ≡ tryFace (now (section .entry)) (now (rectangle .entry)) (now (placed .entry)) ⌝ }
+{
+    if !lengths_ok(section, rectangle, placed) {
+        return Reply::new(1, 0);
+    }
+    try_words(section, rectangle, placed)
+}
+
+// Pack.
+#[no_mangle]
+pub extern "C" fn cafunderi_pack(
+    chambers: &mut [u32],
+    store: &mut [u32],
+    rectangles: &[u32],
+    placements: &mut [u32],
+) -> Reply
+    ensures { λ r. ⌜ packOutcome r (now (chambers .exit)) (now (store .exit)) (now (placements .exit)) ≡ packOf (now (chambers .entry)) (now (store .entry)) (now (rectangles .entry)) (now (placements .entry)) ⌝ }
+{
+    pack(chambers, store, rectangles, placements)
+}
+
+// Return a section.
+#[no_mangle]
+pub extern "C" fn cafunderi_return(
+    chambers: &mut [u32],
+    store: &mut [u32],
+    id: u32,
+    section: &[u32],
+) -> Reply
+    ensures { λ r. ⌜ outcome r (now (chambers .exit)) (now (store .exit)) ≡ returnFace (now (chambers .entry)) (now (store .entry)) id (now (section .entry)) ⌝ }
+{
+    if section.len() != BinSection::WORDS {
+        return Reply::new(1, 0);
+    }
+    return_section(chambers, store, id, BinSection::read(section, 0))
+}
+
+// Audit a chamber. The reply alone crosses over: its detail says where the faulty box lies.
+#[no_mangle]
+pub extern "C" fn cafunderi_audit<'a>(sides: &[u32], placed: &'a [u32], free: &'a [u32]) -> Reply
+    ensures { λ r. ⌜ r ≡ auditFace (now (sides .entry)) (now (placed .entry)) (now (free .entry)) ⌝ }
+{
+    if sides.len() != WidthHeightDepth::WORDS {
+        return Reply::new(1, 0);
+    }
+    let mut number = 0;
+    let mut detail = 0;
+    let whd = WidthHeightDepth::read(sides);
+    audit(whd, placed, free, &mut number, &mut detail);
+    Reply::new(number, detail)
+}
