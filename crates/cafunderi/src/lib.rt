@@ -20,7 +20,6 @@ use target_bin::return_section;
 use try_words::lengths_ok;
 use try_words::try_words;
 
-// Fresh chambers.
 #[no_mangle]
 pub extern "C" fn cafunderi_fresh(chambers: &mut [u32], store: &mut [u32]) -> Reply
     ensures { λ r. ⌜ outcome r (now (chambers .exit)) (now (store .exit)) ≡ freshOf (now (chambers .entry)) (now (store .entry)) ⌝ }
@@ -28,7 +27,6 @@ pub extern "C" fn cafunderi_fresh(chambers: &mut [u32], store: &mut [u32]) -> Re
     fresh(chambers, store)
 }
 
-// Try one placement.
 #[no_mangle]
 pub extern "C" fn cafunderi_try(section: &[u32], rectangle: &[u32], placed: &mut [u32]) -> Reply
     ensures { λ r. ⌜ tryOutcome r (now (placed .exit)) ≡ tryFace (now (section .entry)) (now (rectangle .entry)) (now (placed .entry)) ⌝ }
@@ -39,7 +37,6 @@ pub extern "C" fn cafunderi_try(section: &[u32], rectangle: &[u32], placed: &mut
     try_words(section, rectangle, placed)
 }
 
-// Pack.
 #[no_mangle]
 pub extern "C" fn cafunderi_pack(
     chambers: &mut [u32],
@@ -52,7 +49,7 @@ pub extern "C" fn cafunderi_pack(
     pack(chambers, store, rectangles, placements)
 }
 
-// Return a section.
+// The section is the header's box, a word that is reserved here.
 #[no_mangle]
 pub extern "C" fn cafunderi_return(
     chambers: &mut [u32],
@@ -68,7 +65,7 @@ pub extern "C" fn cafunderi_return(
     return_section(chambers, store, id, BinSection::read(section, 0))
 }
 
-// Audit a chamber. The reply alone crosses over: its detail says where the faulty box lies.
+// The reply alone crosses over: its detail says where the faulty box lies.
 #[no_mangle]
 pub extern "C" fn cafunderi_audit<'a>(sides: &[u32], placed: &'a [u32], free: &'a [u32]) -> Reply
     ensures { λ r. ⌜ r ≡ auditFace (now (sides .entry)) (now (placed .entry)) (now (free .entry)) ⌝ }
