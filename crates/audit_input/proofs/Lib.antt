@@ -1,4 +1,2 @@
-pub mod Decimals
-pub mod Numerals
 pub mod Reading
 pub mod Writing

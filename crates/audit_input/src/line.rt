@@ -1,72 +1,41 @@
 // The line: a fixed name by reply number, the index of replies 16 and 17, a newline.
 ghost use mathlib.Core.Path.{_≡_};
-ghost use Prim.Native.Nat.{_+_, _%_, _≤_};
+ghost use Prim.Native.Nat.{_+_, _≤_};
 ghost use lib.ListN.{length};
-ghost use Rattle.lists.specs.Tab.{put};
-ghost use Rattle.audit_input.specs.Line.{decimal, nameOf, indexOf, lineFor, Wrote};
+ghost use Rattle.text.specs.Written.{Written};
+ghost use Rattle.audit_input.specs.Line.{nameOf, indexOf, lineFor, Wrote};
 use audit::ChamberAudit;
 use bin_section::Reply;
+use text::write_item;
+use text::write_text;
 
-// Copies the text to the front.
-fn write_text(line: &mut [u8], text: &[u8]) -> usize
-    requires { ⌜ length (now text) ≤ length (now line) ⌝ }
-    ensures { λ r. ⌜ (r ≡ length (now (text .entry))) × (now (line .exit) ≡ put (now (line .entry)) 0 (now (text .entry))) ⌝ }
-{
-    let mut i = 0;
-    while i < text.len() {
-        line[i] = text[i];
-        i += 1;
-    }
-    text.len()
-}
-
+// At most seven bytes.
 fn write_name(line: &mut [u8], number: u32) -> usize
     requires { ⌜ 7 ≤ length (now line) ⌝ }
-    ensures { λ r. ⌜ (r ≡ length (nameOf number)) × (now (line .exit) ≡ put (now (line .entry)) 0 (nameOf number)) ⌝ }
+    ensures { λ r. ⌜ Written 0 (nameOf number) (now (line .entry)) (now (line .exit)) r × (r ≤ 7) ⌝ }
 {
     if number == ChamberAudit::WHOLE {
-        return write_text(line, b"WHOLE");
+        return write_text(line, 0, b"WHOLE");
     }
     if number == ChamberAudit::OUTSIDE {
-        return write_text(line, b"OUTSIDE");
+        return write_text(line, 0, b"OUTSIDE");
     }
     if number == ChamberAudit::SHARED {
-        return write_text(line, b"SHARED");
+        return write_text(line, 0, b"SHARED");
     }
     if number == ChamberAudit::GAP {
-        return write_text(line, b"GAP");
+        return write_text(line, 0, b"GAP");
     }
-    write_text(line, b"BAD")
-}
-
-// The digits of n from index `at` on; the index past them is returned.
-fn write_decimal(line: &mut [u8], at: usize, n: u32) -> usize
-    requires { ⌜ at + length (decimal n) ≤ length (now line) ⌝ }
-    ensures { λ r. ⌜ (r ≡ at + length (decimal n)) × (now (line .exit) ≡ put (now (line .entry)) at (decimal n)) ⌝ }
-{
-    if n < 10 {
-        line[at] = last_digit(n);
-        return at + 1;
-    }
-    let next = write_decimal(line, at, n / 10);
-    line[next] = last_digit(n);
-    next + 1
-}
-
-fn last_digit(n: u32) -> u8
-    ensures { λ r. ⌜ r ≡ 48 + n % 10 ⌝ }
-{
-    b'0' + (n % 10) as u8
+    write_text(line, 0, b"BAD")
 }
 
 // A space and at most ten digits.
 fn write_index(line: &mut [u8], at: usize, answer: Reply) -> usize
     requires { ⌜ at + 11 ≤ length (now line) ⌝ }
-    ensures { λ r. ⌜ (r ≡ at + length (indexOf answer)) × (now (line .exit) ≡ put (now (line .entry)) at (indexOf answer)) × (r ≤ at + 11) ⌝ }
+    ensures { λ r. ⌜ Written at (indexOf answer) (now (line .entry)) (now (line .exit)) r × (r ≤ at + 11) ⌝ }
 {
     if (answer.number == ChamberAudit::OUTSIDE) | (answer.number == ChamberAudit::SHARED) {
-        line[at] = b' ';
-        return write_decimal(line, at + 1, answer.detail);
+        return write_item(line, at, b" ", answer.detail);
     }
     at
 }
@@ -76,7 +45,6 @@ pub fn write_line(line: &mut [u8], answer: Reply) -> usize
     ensures { λ r. ⌜ Wrote (lineFor answer) (now (line .entry)) (now (line .exit)) r ⌝ }
 {
     let name = write_name(line, answer.number);
-    let end = write_index(line, name, answer);
-    line[end] = b'\n';
-    end + 1
+    let index = write_index(line, name, answer);
+    write_text(line, index, b"\n")
 }

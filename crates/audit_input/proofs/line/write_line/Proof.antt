@@ -1,6 +1,7 @@
-use native.Mathlib.Omega.{arith}
-use lib.ListN.{length-set}
-use Rattle.audit_input.proofs.Writing.{name-short, line-written}
+use Rattle.text.specs.Ascii.{ascii}
+use Rattle.text.proofs.Writing.{written-then}
+use Rattle.audit_input.specs.Line.{lineFor}
+use Rattle.audit_input.proofs.Writing.{wrote}
 use borrow.Author.Needs.{needs}
 use Rattle.audit_input.proofs.line.write_line.Statement.{statement}
 use Rattle.audit_input.proofs.line.write_line.Tie as tie
@@ -9,19 +10,20 @@ write-name-requires : tie.Need-write-name-requires
 write-name-requires c κs = search needs
 
 write-index-requires : tie.Need-write-index-requires
-write-index-requires c κs = omega (arith, c .before .before .before .write-name .ensures .0, c .before .before .before .write-name .kept .0, name-short (c .before .before .before .before .before .before .args .answer .number))
+write-index-requires c κs = search needs
 
-slice-write-line : tie.Need-slice-write-line
-slice-write-line c = omega (arith, c .before .before .write-index .ensures, c .before .before .write-index .kept .0, c .before .before .before .before .before .before .write-name .ensures .0, c .before .before .before .before .before .before .write-name .kept .0, name-short (c .before .before .before .before .before .before .before .before .before .args .answer .number))
+slice-aggregate-write-text : tie.Need-slice-aggregate-write-text
+slice-aggregate-write-text c = search needs
 
-add-result : tie.Need-add-result
-add-result c = omega (arith, c .before .before .write-index .ensures, c .before .before .before .before .before .before .write-name .ensures .0, name-short (c .before .before .before .before .before .before .before .before .before .args .answer .number))
+write-text-requires : tie.Need-write-text-requires
+write-text-requires c κs = search needs
 
 same-length : tie.Need-same-length
-same-length c = simp length-set (omega (arith, c .before .before .write-index .kept .0, c .before .before .before .before .before .before .write-name .kept .0))
+same-length c = search needs
 
 returns : tie.Need-returns
-returns c = line-written _ _ _ _ _ _ (c .before .before .before .before .before .before .before .before .before .pre) (c .before .before .before .before .before .before .write-name .ensures) (c .before .before .write-index .ensures)
+unfolding ascii lineFor
+returns c = wrote (search needs) (written-then (search needs) (written-then (search needs) (c .before .before .before .before .before .before .before .before .before .before .before .write-name .ensures .0) (c .before .before .before .before .before .before .before .write-index .ensures .0)) (c .before .before .write-text .ensures))
 
 pub write-line-spec : {M : Type 1} → statement M
 write-line-spec =
@@ -29,7 +31,7 @@ write-line-spec =
     (tie.spec
     write-name-requires
     write-index-requires
-    slice-write-line
-    add-result
+    slice-aggregate-write-text
+    write-text-requires
     same-length
     returns)

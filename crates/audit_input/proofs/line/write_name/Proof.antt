@@ -1,4 +1,6 @@
-use Rattle.audit_input.proofs.Writing.{named, name-whole, name-outside, name-shared, name-gap, name-bad}
+use Rattle.text.specs.Ascii.{ascii}
+use Rattle.text.proofs.Writing.{written-as}
+use Rattle.audit_input.proofs.Writing.{name-whole, name-outside, name-shared, name-gap, name-bad}
 use borrow.Author.Needs.{needs}
 use Rattle.audit_input.proofs.line.write_name.Statement.{statement}
 use Rattle.audit_input.proofs.line.write_name.Tie as tie
@@ -13,7 +15,8 @@ same-length : tie.Need-same-length
 same-length c = search needs
 
 returns : tie.Need-returns
-returns c = named _ _ _ _ _ (name-whole _ (c .before .before .before .before .before .if1 .taken)) (c .before .before .write-text .ensures)
+unfolding ascii
+returns c = (written-as (name-whole _ (c .before .before .before .before .before .if1 .taken)) (c .before .before .write-text .ensures), search needs)
 
 slice-aggregate-write-text-2 : tie.Need-slice-aggregate-write-text-2
 slice-aggregate-write-text-2 c = search needs
@@ -25,7 +28,8 @@ same-length-2 : tie.Need-same-length-2
 same-length-2 c = search needs
 
 returns-2 : tie.Need-returns-2
-returns-2 c = named _ _ _ _ _ (name-outside _ (c .before .before .before .before .before .if2 .taken)) (c .before .before .write-text2 .ensures)
+unfolding ascii
+returns-2 c = (written-as (name-outside _ (c .before .before .before .before .before .if2 .taken)) (c .before .before .write-text2 .ensures), search needs)
 
 slice-aggregate-write-text-3 : tie.Need-slice-aggregate-write-text-3
 slice-aggregate-write-text-3 c = search needs
@@ -37,7 +41,8 @@ same-length-3 : tie.Need-same-length-3
 same-length-3 c = search needs
 
 returns-3 : tie.Need-returns-3
-returns-3 c = named _ _ _ _ _ (name-shared _ (c .before .before .before .before .before .if3 .taken)) (c .before .before .write-text3 .ensures)
+unfolding ascii
+returns-3 c = (written-as (name-shared _ (c .before .before .before .before .before .if3 .taken)) (c .before .before .write-text3 .ensures), search needs)
 
 slice-aggregate-write-text-4 : tie.Need-slice-aggregate-write-text-4
 slice-aggregate-write-text-4 c = search needs
@@ -49,7 +54,8 @@ same-length-4 : tie.Need-same-length-4
 same-length-4 c = search needs
 
 returns-4 : tie.Need-returns-4
-returns-4 c = named _ _ _ _ _ (name-gap _ (c .before .before .before .before .before .if4 .taken)) (c .before .before .write-text4 .ensures)
+unfolding ascii
+returns-4 c = (written-as (name-gap _ (c .before .before .before .before .before .if4 .taken)) (c .before .before .write-text4 .ensures), search needs)
 
 slice-aggregate-write-text-5 : tie.Need-slice-aggregate-write-text-5
 slice-aggregate-write-text-5 c = search needs
@@ -61,7 +67,8 @@ same-length-5 : tie.Need-same-length-5
 same-length-5 c = search needs
 
 returns-5 : tie.Need-returns-5
-returns-5 c = named _ _ _ _ _ (name-bad _ (c .before .before .before .before .before .before .before .before .if1 .left) (c .before .before .before .before .before .before .before .if2 .left) (c .before .before .before .before .before .before .if3 .left) (c .before .before .before .before .before .if4 .left)) (c .before .before .write-text5 .ensures)
+unfolding ascii
+returns-5 c = (written-as (name-bad _ (c .before .before .before .before .before .before .before .before .if1 .left) (c .before .before .before .before .before .before .before .if2 .left) (c .before .before .before .before .before .before .if3 .left) (c .before .before .before .before .before .if4 .left)) (c .before .before .write-text5 .ensures), search needs)
 
 pub write-name-spec : {M : Type 1} → statement M
 write-name-spec =

@@ -7,7 +7,7 @@ use native.Mathlib.Omega.{arith}
 use borrow.Author.Tests.{lt-ltb, le-ltb}
 use lib.ListN.{length, getD, length-append, List·getD-append}
 use Rattle.lists.specs.Sort.{Each, none, also}
-use Rattle.audit_input.specs.Line.{digitsIn, decimal}
+use Rattle.text.specs.Decimal.{digitsIn, decimal}
 
 -- the number that digits say, read from the first on
 unfoldable pub valueFrom : ℕ → List ℕ → ℕ

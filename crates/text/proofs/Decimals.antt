@@ -9,7 +9,7 @@ use native.Mathlib.Omega.{arith}
 use borrow.Author.Tests.{lt-ltb, le-ltb}
 use lib.Dec.{ltb}
 use lib.ListN.{length, length-append}
-use Rattle.audit_input.specs.Line.{digitsIn, decimal}
+use Rattle.text.specs.Decimal.{digitsIn, decimal}
 
 abbrev last : ℕ → List ℕ
 last n = (48 + n % 10) ∷ []

@@ -1,0 +1,4 @@
+pub mod Asciis
+pub mod Decimals
+pub mod Numerals
+pub mod Writing

@@ -1,0 +1,3 @@
+pub mod Ascii
+pub mod Decimal
+pub mod Written
