@@ -1,0 +1,4 @@
+pub mod Words
+pub mod Number
+pub mod List
+pub mod Table

@@ -1,0 +1,7 @@
+// The planner's list read: text to tables for a pack.
+mod list;
+mod number;
+mod words;
+
+pub use list::ListRead;
+pub use list::read_list;
