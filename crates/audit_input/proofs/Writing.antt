@@ -1,7 +1,7 @@
 -- Laws of the line as it is written: its name, its index, the whole of it.
 use Prim.Native.Nat.{ℕ, _+_, _≤_}
 use mathlib.Core.Path.{_≡_, ap, _∙_, subst}
-use mathlib.Core.List.{List, [], _++_}
+use mathlib.Core.List.{List, []}
 use mathlib.Core.Bool.{true, false, _||_}
 use native.Mathlib.Omega.{arith}
 use borrow.Author.Tests.{ne-eqb}
@@ -11,34 +11,18 @@ use lib.Seq.{take-at, drop-at}
 use Rattle.lists.specs.Tab.{put}
 use Rattle.bin_section.specs.declared.reply.Reply.{Reply}
 use Rattle.text.specs.Ascii.{ascii}
-use Rattle.text.specs.Decimal.{decimal}
+use Rattle.text.specs.Decimal.{item}
 use Rattle.text.specs.Written.{Written}
 use Rattle.audit_input.specs.Input.{inputReply}
 use Rattle.audit_input.specs.Line.{nameOf, indexOf, lineFor, lineOf, Wrote}
 
-module _ (n : ℕ) where
-  pub name-whole : n ≡ 0 → ascii "WHOLE" ≡ nameOf n
-  unfolding nameOf
-  name-whole e = rw e
-
-  pub name-outside : n ≡ 16 → ascii "OUTSIDE" ≡ nameOf n
-  unfolding nameOf
-  name-outside e = rw e
-
-  pub name-shared : n ≡ 17 → ascii "SHARED" ≡ nameOf n
-  unfolding nameOf
-  name-shared e = rw e
-
-  pub name-gap : n ≡ 18 → ascii "GAP" ≡ nameOf n
-  unfolding nameOf
-  name-gap e = rw e
-
-  pub name-bad : ¬ (n ≡ 0) → ¬ (n ≡ 16) → ¬ (n ≡ 17) → ¬ (n ≡ 18) → ascii "BAD" ≡ nameOf n
-  unfolding nameOf
-  name-bad a b c d = rw (ne-eqb n 0 a, ne-eqb n 16 b, ne-eqb n 17 c, ne-eqb n 18 d)
+-- every other number
+pub name-bad : (n : ℕ) → ¬ (n ≡ 0) → ¬ (n ≡ 16) → ¬ (n ≡ 17) → ¬ (n ≡ 18) → nameOf 1 ≡ nameOf n
+unfolding nameOf
+name-bad n a b c d = rw (ne-eqb n 0 a, ne-eqb n 16 b, ne-eqb n 17 c, ne-eqb n 18 d)
 
 module _ (r : Reply) where
-  pub index-named : (eqb (r .number) 16 || eqb (r .number) 17) ≡ true → ascii " " ++ decimal (r .detail) ≡ indexOf r
+  pub index-named : (eqb (r .number) 16 || eqb (r .number) 17) ≡ true → item (ascii " ") (r .detail) ≡ indexOf r
   unfolding indexOf
   index-named h = rw h
 

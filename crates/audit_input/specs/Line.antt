@@ -7,7 +7,7 @@ use lib.Dec.{eqb}
 use lib.ListN.{length, take, drop}
 use Rattle.bin_section.specs.declared.reply.Reply.{Reply}
 use Rattle.text.specs.Ascii.{ascii}
-use Rattle.text.specs.Decimal.{decimal}
+use Rattle.text.specs.Decimal.{item}
 use Rattle.audit_input.specs.Input.{inputReply}
 
 -- by reply number
@@ -19,7 +19,7 @@ nameOf number =
 
 -- "n the index": a space and the number, of 16 and 17
 unfoldable pub indexOf : Reply → List ℕ
-indexOf r = cond (eqb (r .number) 16 || eqb (r .number) 17) (ascii " " ++ decimal (r .detail)) []
+indexOf r = cond (eqb (r .number) 16 || eqb (r .number) 17) (item (ascii " ") (r .detail)) []
 
 -- with "a newline"
 unfoldable pub lineFor : Reply → List ℕ

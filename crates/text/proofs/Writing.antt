@@ -26,6 +26,10 @@ module _ {at : ℕ} {l : List ℕ} where
   pub written-as : {p q m : List ℕ} {r : ℕ} → p ≡ q → Written at p l m r → Written at q l m r
   written-as {m} {r} e w = subst (λ (t : List ℕ). Written at t l m r) e w
 
+  -- the text of a number that is known
+  pub written-by : (f : ℕ → List ℕ) {n k : ℕ} {m : List ℕ} {r : ℕ} → n ≡ k → Written at (f k) l m r → Written at (f n) l m r
+  written-by f e = written-as (ap f (sym e))
+
   -- no text
   pub written-none : Written at [] l l at
   unfolding put

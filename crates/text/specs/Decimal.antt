@@ -12,3 +12,7 @@ digitsIn (suc steps) n = cond (ltb n 10) ((48 + n % 10) ∷ []) (digitsIn steps 
 -- "in decimal"
 unfoldable pub decimal : ℕ → List ℕ
 decimal n = digitsIn n n
+
+-- a text and a number behind it
+abbrev pub item : List ℕ → ℕ → List ℕ
+item text n = text ++ decimal n

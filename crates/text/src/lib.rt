@@ -1,9 +1,8 @@
 // Text in bytes: texts copied, numbers written in decimal.
 ghost use mathlib.Core.Path.{_≡_};
-ghost use mathlib.Core.List.{_++_};
 ghost use Prim.Native.Nat.{_+_, _%_, _≤_};
 ghost use lib.ListN.{length};
-ghost use Rattle.text.specs.Decimal.{decimal};
+ghost use Rattle.text.specs.Decimal.{decimal, item};
 ghost use Rattle.text.specs.Written.{Written};
 
 // Copies the text to index `at` and on; the index past it is returned.
@@ -42,7 +41,7 @@ fn last_digit(n: u32) -> u8
 // A text and a number behind it, which has at most ten digits.
 pub fn write_item(out: &mut [u8], at: usize, text: &[u8], n: u32) -> usize
     requires { ⌜ at + length (now text) + 10 ≤ length (now out) ⌝ }
-    ensures { λ r. ⌜ Written at (now (text .entry) ++ decimal n) (now (out .entry)) (now (out .exit)) r × (r ≤ at + length (now (text .entry)) + 10) ⌝ }
+    ensures { λ r. ⌜ Written at (item (now (text .entry)) n) (now (out .entry)) (now (out .exit)) r × (r ≤ at + length (now (text .entry)) + 10) ⌝ }
 {
     let next = write_text(out, at, text);
     write_decimal(out, next, n)

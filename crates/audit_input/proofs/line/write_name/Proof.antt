@@ -1,6 +1,7 @@
 use Rattle.text.specs.Ascii.{ascii}
-use Rattle.text.proofs.Writing.{written-as}
-use Rattle.audit_input.proofs.Writing.{name-whole, name-outside, name-shared, name-gap, name-bad}
+use Rattle.audit_input.specs.Line.{nameOf}
+use Rattle.text.proofs.Writing.{written-as, written-by}
+use Rattle.audit_input.proofs.Writing.{name-bad}
 use borrow.Author.Needs.{needs}
 use Rattle.audit_input.proofs.line.write_name.Statement.{statement}
 use Rattle.audit_input.proofs.line.write_name.Tie as tie
@@ -15,8 +16,8 @@ same-length : tie.Need-same-length
 same-length c = search needs
 
 returns : tie.Need-returns
-unfolding ascii
-returns c = (written-as (name-whole _ (c .before .before .before .before .before .if1 .taken)) (c .before .before .write-text .ensures), search needs)
+unfolding ascii nameOf
+returns c = (written-by nameOf (c .before .before .before .before .before .if1 .taken) (c .before .before .write-text .ensures), search needs)
 
 slice-aggregate-write-text-2 : tie.Need-slice-aggregate-write-text-2
 slice-aggregate-write-text-2 c = search needs
@@ -28,8 +29,8 @@ same-length-2 : tie.Need-same-length-2
 same-length-2 c = search needs
 
 returns-2 : tie.Need-returns-2
-unfolding ascii
-returns-2 c = (written-as (name-outside _ (c .before .before .before .before .before .if2 .taken)) (c .before .before .write-text2 .ensures), search needs)
+unfolding ascii nameOf
+returns-2 c = (written-by nameOf (c .before .before .before .before .before .if2 .taken) (c .before .before .write-text2 .ensures), search needs)
 
 slice-aggregate-write-text-3 : tie.Need-slice-aggregate-write-text-3
 slice-aggregate-write-text-3 c = search needs
@@ -41,8 +42,8 @@ same-length-3 : tie.Need-same-length-3
 same-length-3 c = search needs
 
 returns-3 : tie.Need-returns-3
-unfolding ascii
-returns-3 c = (written-as (name-shared _ (c .before .before .before .before .before .if3 .taken)) (c .before .before .write-text3 .ensures), search needs)
+unfolding ascii nameOf
+returns-3 c = (written-by nameOf (c .before .before .before .before .before .if3 .taken) (c .before .before .write-text3 .ensures), search needs)
 
 slice-aggregate-write-text-4 : tie.Need-slice-aggregate-write-text-4
 slice-aggregate-write-text-4 c = search needs
@@ -54,8 +55,8 @@ same-length-4 : tie.Need-same-length-4
 same-length-4 c = search needs
 
 returns-4 : tie.Need-returns-4
-unfolding ascii
-returns-4 c = (written-as (name-gap _ (c .before .before .before .before .before .if4 .taken)) (c .before .before .write-text4 .ensures), search needs)
+unfolding ascii nameOf
+returns-4 c = (written-by nameOf (c .before .before .before .before .before .if4 .taken) (c .before .before .write-text4 .ensures), search needs)
 
 slice-aggregate-write-text-5 : tie.Need-slice-aggregate-write-text-5
 slice-aggregate-write-text-5 c = search needs
@@ -67,7 +68,7 @@ same-length-5 : tie.Need-same-length-5
 same-length-5 c = search needs
 
 returns-5 : tie.Need-returns-5
-unfolding ascii
+unfolding ascii nameOf
 returns-5 c = (written-as (name-bad _ (c .before .before .before .before .before .before .before .before .if1 .left) (c .before .before .before .before .before .before .before .if2 .left) (c .before .before .before .before .before .before .if3 .left) (c .before .before .before .before .before .if4 .left)) (c .before .before .write-text5 .ensures), search needs)
 
 pub write-name-spec : {M : Type 1} → statement M
