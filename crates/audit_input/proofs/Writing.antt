@@ -6,7 +6,7 @@ use mathlib.Core.Bool.{true, false, _||_}
 use native.Mathlib.Omega.{arith}
 use borrow.Author.Tests.{ne-eqb}
 use lib.Dec.{eqb}
-use lib.ListN.{length, take, drop, length-append, length-drop}
+use lib.ListN.{length, drop, length-append, length-drop}
 use lib.Seq.{take-at, drop-at}
 use Rattle.lists.specs.Tab.{put}
 use Rattle.bin_section.specs.declared.reply.Reply.{Reply}

@@ -10,6 +10,7 @@ ghost use Rattle.plan_list.specs.List.{firstUnsaid, chamberWith, coilWit
 ghost use Rattle.plan_list.specs.Table.{readingOf, startAt, nextRead, slippedRead, Few, Sized, Step, ChamberStep, CoilStep};
 use crate::number::Number;
 use crate::number::number_of;
+use crate::slip::Slip;
 use crate::words::Mark;
 use crate::words::count_words;
 use crate::words::first_of;
@@ -36,21 +37,6 @@ impl ListRead {
     pub const CHAMBER_TABLE: usize = TargetBin::MOST * TargetBin::WORDS;
 
     pub const COIL_TABLE: usize = RectToPlace::MOST * RectToPlace::WORDS;
-
-    // Slips of the pen.
-    pub const NEITHER: u32 = 1;
-
-    pub const CHAMBER_WORDS: u32 = 2;
-
-    pub const COIL_WORDS: u32 = 3;
-
-    pub const NO_NUMBER: u32 = 4;
-
-    pub const MANY_CHAMBERS: u32 = 5;
-
-    pub const MANY_COILS: u32 = 6;
-
-    pub const TOO_LONG: u32 = 7;
 
     fn start(line: u32) -> ListRead
         ensures { λ r. ⌜ r ≡ startAt line ⌝ }
@@ -133,7 +119,7 @@ fn chamber_with(
     let numbers = [id, width, height, depth];
     let bad = first_unsaid(&numbers);
     if bad < 4 {
-        return l.slipped(ListRead::NO_NUMBER, bad as u32 + 2);
+        return l.slipped(Slip::NO_NUMBER, bad as u32 + 2);
     }
     let n = l.chambers;
     write_record(
@@ -172,7 +158,7 @@ fn coil_with(
     let numbers = [id, group, width, height, depth];
     let bad = first_unsaid(&numbers);
     if bad < 5 {
-        return l.slipped(ListRead::NO_NUMBER, bad as u32 + 2);
+        return l.slipped(Slip::NO_NUMBER, bad as u32 + 2);
     }
     let n = l.coils;
     write_record(
@@ -226,10 +212,10 @@ fn add_chamber(
     ensures { λ r. ⌜ ChamberStep (addChamber (wordsOf (now (line .entry)))) l r (now (chambers .entry)) (now (lines .entry)) (now (chambers .exit)) (now (lines .exit)) ⌝ }
 {
     if words != 5 {
-        return l.slipped(ListRead::CHAMBER_WORDS, 0);
+        return l.slipped(Slip::CHAMBER_WORDS, 0);
     }
     if l.chambers == TargetBin::MOST {
-        return l.slipped(ListRead::MANY_CHAMBERS, 0);
+        return l.slipped(Slip::MANY_CHAMBERS, 0);
     }
     let id = number_at(line, 1);
     let width = number_at(line, 2);
@@ -249,10 +235,10 @@ fn add_coil(
     ensures { λ r. ⌜ CoilStep (addCoil (wordsOf (now (line .entry)))) l r (now (coils .entry)) (now (lines .entry)) (now (coils .exit)) (now (lines .exit)) ⌝ }
 {
     if words != 6 {
-        return l.slipped(ListRead::COIL_WORDS, 0);
+        return l.slipped(Slip::COIL_WORDS, 0);
     }
     if l.coils == RectToPlace::MOST {
-        return l.slipped(ListRead::MANY_COILS, 0);
+        return l.slipped(Slip::MANY_COILS, 0);
     }
     let id = number_at(line, 1);
     let group = group_at(line);
@@ -285,7 +271,7 @@ fn add_words(
     if same_bytes(first, b"coil") {
         return add_coil(line, words, l, coils, coil_lines);
     }
-    l.slipped(ListRead::NEITHER, 0)
+    l.slipped(Slip::NEITHER, 0)
 }
 
 // One line more.
@@ -375,7 +361,25 @@ fn newlines(b: u8) -> usize
     0
 }
 
-// The list that a text is: the tables are filled from the front. What is longer than 65,536 bytes is not read.
+// What is longer than 65,536 bytes is not read.
+fn read_text(
+    text: &[u8],
+    chambers: &mut [u32],
+    chamber_lines: &mut [u32],
+    coils: &mut [u32],
+    coil_lines: &mut [u32],
+) -> ListRead
+    requires { ⌜ Sized (now chambers) (now «chamber_lines») (now coils) (now «coil_lines») ⌝ }
+    ensures { λ r. ⌜ (readingOf r (now (chambers .exit)) (now («chamber_lines» .exit)) (now (coils .exit)) (now («coil_lines» .exit)) ≡ readOf (now (text .entry))) × Few r ⌝ }
+{
+    if ListRead::MOST < text.len() {
+        let line = line_at(text, ListRead::MOST);
+        return ListRead::start(line as u32).slipped(Slip::TOO_LONG, 0);
+    }
+    read_lines(text, chambers, chamber_lines, coils, coil_lines)
+}
+
+// The list that a text is: the tables are filled from the front.
 pub fn read_list(
     text: &[u8],
     chambers: &mut [u32; ListRead::CHAMBER_TABLE],
@@ -383,11 +387,7 @@ pub fn read_list(
     coils: &mut [u32; ListRead::COIL_TABLE],
     coil_lines: &mut [u32; RectToPlace::MOST],
 ) -> ListRead
-    ensures { λ r. ⌜ (readingOf r (now (chambers .exit)) (now («chamber_lines» .exit)) (now (coils .exit)) (now («coil_lines» .exit)) ≡ readOf (now (text .entry))) × Few r ⌝ }
+    ensures { λ r. ⌜ (readingOf r (now (chambers .exit)) (now («chamber_lines» .exit)) (now (coils .exit)) (now («coil_lines» .exit)) ≡ readOf (now (text .entry))) × Few r × Sized (now (chambers .exit)) (now («chamber_lines» .exit)) (now (coils .exit)) (now («coil_lines» .exit)) ⌝ }
 {
-    if ListRead::MOST < text.len() {
-        let line = line_at(text, ListRead::MOST);
-        return ListRead::start(line as u32).slipped(ListRead::TOO_LONG, 0);
-    }
-    read_lines(text, chambers, chamber_lines, coils, coil_lines)
+    read_text(text, chambers, chamber_lines, coils, coil_lines)
 }

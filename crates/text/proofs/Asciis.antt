@@ -1,4 +1,4 @@
--- That `ascii` gives the bytes that a byte string of the code has: a law checks b"GAP\n" and `ascii "GAP\n"` against the same bytes.
+-- That `ascii` gives the bytes of a text: one text beside its bytes, written out as numbers.
 use mathlib.Core.Path.{_≡_, refl}
 use mathlib.Core.List.{[], _∷_}
 use Rattle.text.specs.Ascii.{ascii}

@@ -6,7 +6,7 @@ use native.Mathlib.Nat.{add-assoc, add-zero}
 use native.Mathlib.Numerals.{add-one}
 use native.Mathlib.Omega.{arith}
 use lib.ListN.{length, getD, take, drop, set, length-append, length-set, length-take, take-append-drop}
-use lib.Seq.{length-take-le, take-suc, take-all}
+use lib.Seq.{take-suc, take-all}
 use Rattle.lists.specs.Tab.{put}
 use Rattle.lists.proofs.Fills.{set-put, front-put}
 use Rattle.lists.proofs.Tabs.{length-put}

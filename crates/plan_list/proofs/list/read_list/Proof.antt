@@ -1,38 +1,12 @@
-use Rattle.plan_list.proofs.Lines.{read-too-long, read-whole}
-use denote.Ref.{now}
 use borrow.Author.Needs.{needs}
 use Rattle.plan_list.proofs.list.read_list.Statement.{statement}
 use Rattle.plan_list.proofs.list.read_list.Tie as tie
 
-line-at-requires : tie.Need-line-at-requires
-line-at-requires c κs = search needs
-
-cast-start : tie.Need-cast-start
-cast-start c = search needs
-
-start-requires : tie.Need-start-requires
-start-requires c κs = search needs
-
-slipped-requires : tie.Need-slipped-requires
-slipped-requires c κs = search needs
+read-text-requires : tie.Need-read-text-requires
+read-text-requires c κs = search needs
 
 returns : tie.Need-returns
-returns c = let a = c .before .before .before .before .before .args in read-too-long (now (a .text)) _ _ _ _ _ _ _ (c .before .before .before .if1 .taken) (c .before .before .line-at .ensures .0) (c .before .start .ensures) (c .slipped .ensures)
-
-read-lines-requires : tie.Need-read-lines-requires
-read-lines-requires c κs = search needs
-
-returns-2 : tie.Need-returns-2
-returns-2 c = let a = c .before .before .before .before .before .before .before .args in (read-whole (now (a .text)) _ (c .before .before .before .before .before .if1 .left) (c .read-lines .ensures .0), c .read-lines .ensures .1)
+returns c = (c .read-text .ensures .0, c .read-text .ensures .1, search needs)
 
 pub read-list-spec : {M : Type 1} → statement M
-read-list-spec =
-    tie.close
-    (tie.spec
-    line-at-requires
-    cast-start
-    start-requires
-    slipped-requires
-    returns
-    read-lines-requires
-    returns-2)
+read-list-spec = tie.close (tie.spec read-text-requires returns)

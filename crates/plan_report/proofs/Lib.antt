@@ -1,0 +1,3 @@
+pub mod Choosing
+pub mod Examples
+pub mod Looping

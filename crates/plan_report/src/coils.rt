@@ -1,0 +1,69 @@
+// Where each coil goes, or that it waits.
+ghost use Prim.Native.Nat.{_+_, _*_, _≤_};
+ghost use lib.ListN.{length};
+ghost use Rattle.text.specs.Written.{Written};
+ghost use Rattle.plan_report.specs.Texts.{placeText, goesTo, coilText, coilTexts};
+use text::write_item;
+use text::write_text;
+
+// A coil's row, in the coils and in the placements.
+pub struct CoilRow {}
+
+impl CoilRow {
+    pub const WORDS: usize = 5;
+
+    // What the first word of a placement says of a placed coil.
+    pub const PLACED: u32 = 1;
+}
+
+fn write_place(out: &mut [u8], at: usize, x: u32, y: u32, z: u32) -> usize
+    requires { ⌜ at + 37 ≤ length (now out) ⌝ }
+    ensures { λ r. ⌜ Written at (placeText x y z) (now (out .entry)) (now (out .exit)) r × (r ≤ at + 37) ⌝ }
+{
+    let past_x = write_item(out, at, b" at ", x);
+    let past_y = write_item(out, past_x, b" ", y);
+    let past_z = write_item(out, past_y, b" ", z);
+    write_text(out, past_z, b"\n")
+}
+
+fn write_goes(out: &mut [u8], at: usize, placed: u32, chamber: u32, x: u32, y: u32, z: u32) -> usize
+    requires { ⌜ at + 64 ≤ length (now out) ⌝ }
+    ensures { λ r. ⌜ Written at (goesTo placed chamber x y z) (now (out .entry)) (now (out .exit)) r × (r ≤ at + 64) ⌝ }
+{
+    if placed == CoilRow::PLACED {
+        let next = write_item(out, at, b" goes to chamber ", chamber);
+        return write_place(out, next, x, y, z);
+    }
+    write_text(out, at, b" waits\n")
+}
+
+fn write_coil(out: &mut [u8], at: usize, coils: &[u32], placements: &[u32], i: usize) -> usize
+    requires { ⌜ (at + 80 ≤ length (now out)) × (i * 5 + 5 ≤ length (now coils)) × (i * 5 + 5 ≤ length (now placements)) ⌝ }
+    ensures { λ r. ⌜ Written at (coilText (now (coils .entry)) (now (placements .entry)) i) (now (out .entry)) (now (out .exit)) r × (r ≤ at + 80) ⌝ }
+{
+    let row = i * CoilRow::WORDS;
+    let next = write_item(out, at, b"coil ", coils[row]);
+    write_goes(
+        out,
+        next,
+        placements[row],
+        placements[row + 1],
+        placements[row + 2],
+        placements[row + 3],
+        placements[row + 4],
+    )
+}
+
+// The first n coils, at most 80 bytes each.
+pub fn write_coils(out: &mut [u8], at: usize, coils: &[u32], placements: &[u32], n: usize) -> usize
+    requires { ⌜ (at + n * 80 ≤ length (now out)) × (n * 5 ≤ length (now coils)) × (n * 5 ≤ length (now placements)) ⌝ }
+    ensures { λ r. ⌜ Written at (coilTexts (now (coils .entry)) (now (placements .entry)) n) (now (out .entry)) (now (out .exit)) r × (r ≤ at + n * 80) ⌝ }
+{
+    let mut next = at;
+    let mut i = 0;
+    while i < n {
+        next = write_coil(out, next, coils, placements, i);
+        i += 1;
+    }
+    next
+}

@@ -1,0 +1,45 @@
+// The report of a pack.
+ghost use Prim.Native.Nat.{_*_, _≤_};
+ghost use lib.ListN.{length};
+ghost use Rattle.text.specs.Written.{Written};
+ghost use Rattle.plan_report.specs.Texts.{packReport};
+use crate::coils::write_coils;
+use crate::phrases::write_nothing_placed;
+use crate::refusals::PackReply;
+use crate::refusals::line_of;
+use crate::refusals::write_refusal;
+use crate::summary::write_summary;
+use bin_section::Reply;
+
+pub struct Report {}
+
+impl Report {
+    // No report is longer.
+    pub const MOST: usize = 8192;
+}
+
+pub fn write_report(
+    out: &mut [u8],
+    chamber_lines: &[u32],
+    coil_lines: &[u32],
+    coils: &[u32],
+    placements: &[u32],
+    n: usize,
+    answer: Reply,
+) -> usize
+    requires { ⌜ (n ≤ 63) × (n * 5 ≤ length (now coils)) × (n * 5 ≤ length (now placements)) × (8192 ≤ length (now out)) ⌝ }
+    ensures { λ r. ⌜ Written 0 (packReport (now («chamber_lines» .entry)) (now («coil_lines» .entry)) (now (coils .entry)) (now (placements .entry)) n answer) (now (out .entry)) (now (out .exit)) r × (r ≤ 8192) ⌝ }
+{
+    if answer.number == PackReply::PACKED {
+        let next = write_coils(out, 0, coils, placements, n);
+        return write_summary(out, next, placements, n);
+    }
+    let line = line_of(chamber_lines, coil_lines, answer);
+    if answer.number == PackReply::NO_ROOM {
+        let next = write_coils(out, 0, coils, placements, n);
+        let refused = write_refusal(out, next, line, PackReply::NO_ROOM);
+        return write_summary(out, refused, placements, n);
+    }
+    let next = write_refusal(out, 0, line, answer.number);
+    write_nothing_placed(out, next)
+}

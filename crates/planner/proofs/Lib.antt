@@ -1,0 +1,3 @@
+pub mod Packing
+pub mod Fronts
+pub mod Cutting

@@ -1,0 +1,6 @@
+// The planner's job on bytes: a list read and packed, and the report of it.
+mod packed;
+mod plan;
+
+pub use plan::PlanTables;
+pub use plan::write_plan;

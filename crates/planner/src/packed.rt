@@ -1,0 +1,49 @@
+// A list packed: fresh chambers, then the pack.
+ghost use mathlib.Core.Path.{_≡_};
+ghost use Prim.Native.Nat.{_*_, _≤_};
+ghost use lib.ListN.{length, take};
+ghost use Rattle.rectangle_pack.specs.Pack.{packOutcome};
+ghost use Rattle.planner.specs.Packed.{packFresh, PackedFront};
+use bin_section::Reply;
+use grouped_rects_to_place::RectToPlace;
+use rectangle_pack::pack;
+use target_bin::TargetBin;
+use target_bin::fresh;
+
+fn pack_fresh(
+    chambers: &mut [u32],
+    store: &mut [u32],
+    coils: &[u32],
+    placements: &mut [u32],
+) -> Reply
+    ensures { λ r. ⌜ packOutcome r (now (chambers .exit)) (now (store .exit)) (now (placements .exit)) ≡ packFresh (now (chambers .entry)) (now (store .entry)) (now (coils .entry)) (now (placements .entry)) ⌝ }
+{
+    let answer = fresh(chambers, store);
+    if answer.number != 0 {
+        return answer;
+    }
+    pack(chambers, store, coils, placements)
+}
+
+// The same for the first `bins` chambers and the first n coils of longer tables.
+pub fn pack_front(
+    bins: usize,
+    n: usize,
+    chambers: &mut [u32],
+    store: &mut [u32],
+    coils: &[u32],
+    placements: &mut [u32],
+) -> Reply
+    requires { ⌜ (bins * 5 ≤ length (now chambers)) × (bins * 768 ≤ length (now store)) × (n * 5 ≤ length (now coils)) × (n * 5 ≤ length (now placements)) ⌝ }
+    ensures { λ r. ⌜ PackedFront (packFresh (take (bins * 5) (now (chambers .entry))) (take (bins * 768) (now (store .entry))) (take (n * 5) (now (coils .entry))) (take (n * 5) (now (placements .entry)))) n (now (placements .exit)) r ⌝ }
+{
+    let bin_words = bins * TargetBin::WORDS;
+    let store_words = bins * TargetBin::STORE;
+    let coil_words = n * RectToPlace::WORDS;
+    pack_fresh(
+        &mut chambers[0..bin_words],
+        &mut store[0..store_words],
+        &coils[0..coil_words],
+        &mut placements[0..coil_words],
+    )
+}
