@@ -2,3 +2,4 @@ pub mod Choosing
 pub mod Meaning
 pub mod Trying
 pub mod Remaining
+pub mod Refusing

@@ -83,22 +83,36 @@ fn refused(answer: Placement) -> Tried
     Tried { answer, sections }
 }
 
-// The rectangle in the section's corner, and the chosen three.
-fn place(section: BinSection, incoming: RectToInsert) -> Tried
-    requires { ⌜ Fitting section incoming ⌝ }
-    ensures { λ t. ⌜ t ≡ placedOf section incoming ⌝ }
+// Where the rectangle goes in the section, or why it does not fit: the Rust's incoming_can_fit.
+fn fit(section: BinSection, incoming: RectToInsert) -> Placement
+    ensures { λ a. ⌜ a ≡ fitOf section incoming .answer ⌝ }
 {
-    let splits = six_splits(section, incoming);
-    let k = choose(splits);
-    let sections = splits[k];
+    if section.whd.width < incoming.whd.width {
+        return Placement::PlacementWiderThanBinSection;
+    }
+    if section.whd.height < incoming.whd.height {
+        return Placement::PlacementTallerThanBinSection;
+    }
+    if section.whd.depth < incoming.whd.depth {
+        return Placement::PlacementDeeperThanBinSection;
+    }
     let whd = incoming.whd;
-    let answer = Placement::Placed(PackedLocation {
+    Placement::Placed(PackedLocation {
         x: section.x,
         y: section.y,
         z: section.z,
         whd,
-    });
-    Tried { answer, sections }
+    })
+}
+
+// The chosen three. Both tries call it, so that it stays a function of its own in the compiled code, and a refusal costs the tests alone.
+fn chosen_three(section: BinSection, incoming: RectToInsert) -> [BinSection; 3]
+    requires { ⌜ Fitting section incoming ⌝ }
+    ensures { λ t. ⌜ t ≡ placedOf section incoming .sections ⌝ }
+{
+    let splits = six_splits(section, incoming);
+    let k = choose(splits);
+    splits[k]
 }
 
 // The Rust's try_place, for a section that reaches 65,535 at most.
@@ -106,16 +120,12 @@ pub fn try_place(section: BinSection, incoming: RectToInsert) -> Tried
     requires { ⌜ Reachable section ⌝ }
     ensures { λ t. ⌜ t ≡ fitOf section incoming ⌝ }
 {
-    if section.whd.width < incoming.whd.width {
-        return refused(Placement::PlacementWiderThanBinSection);
-    }
-    if section.whd.height < incoming.whd.height {
-        return refused(Placement::PlacementTallerThanBinSection);
-    }
-    if section.whd.depth < incoming.whd.depth {
-        return refused(Placement::PlacementDeeperThanBinSection);
-    }
-    place(section, incoming)
+    let answer = fit(section, incoming);
+    let Placement::Placed(_) = answer else {
+        return refused(answer);
+    };
+    let sections = chosen_three(section, incoming);
+    Tried { answer, sections }
 }
 
 fn in_range(s: BinSection) -> bool
@@ -131,15 +141,27 @@ fn span_ok(origin: u32, side: u32) -> bool
     side_ok(side) & ((origin as u64) + (side as u64) <= WidthHeightDepth::MOST_SIDE as u64)
 }
 
+// The checks 3 and 4, then the fit.
+fn answer_to(section: BinSection, rectangle: RectToInsert) -> Placement
+    ensures { λ a. ⌜ a ≡ tryOf section rectangle .answer ⌝ }
+{
+    if !in_range(section) {
+        return Placement::BadSection;
+    }
+    if !rectangle.whd.in_range() {
+        return Placement::BadRectangle;
+    }
+    fit(section, rectangle)
+}
+
 // Try one placement, for any section and any rectangle.
 pub fn try_placement(section: BinSection, rectangle: RectToInsert) -> Tried
     ensures { λ t. ⌜ (t ≡ tryOf section rectangle) × (reply (numberOf (t .answer)) 0 ≡ inOrder (tryChecks section rectangle) (λ a. a) (reply 0 0)) ⌝ }
 {
-    if !in_range(section) {
-        return refused(Placement::BadSection);
-    }
-    if !rectangle.whd.in_range() {
-        return refused(Placement::BadRectangle);
-    }
-    try_place(section, rectangle)
+    let answer = answer_to(section, rectangle);
+    let Placement::Placed(_) = answer else {
+        return refused(answer);
+    };
+    let sections = chosen_three(section, rectangle);
+    Tried { answer, sections }
 }

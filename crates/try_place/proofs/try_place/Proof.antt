@@ -1,42 +1,33 @@
-use mathlib.Core.Path.{_∙_}
-use Rattle.try_place.proofs.Trying.{fit-wider, fit-taller, fit-deeper, fit-placed}
+use mathlib.Core.Path.{_≡_, sym, ap, _∙_}
+use Rattle.try_place.specs.declared.Tried.{Tried}
+use Rattle.try_place.proofs.Remaining.{placed-fitting, placed-is}
+use Rattle.try_place.proofs.Refusing.{refused-fit, beside}
 use borrow.Author.Needs.{needs}
 use Rattle.try_place.proofs.try_place.Statement.{statement}
 use Rattle.try_place.proofs.try_place.Tie as tie
+
+fit-requires : tie.Need-fit-requires
+fit-requires c κs = search needs
+
+enum-told : tie.Need-enum-told
+enum-told c = search needs
 
 refused-requires : tie.Need-refused-requires
 refused-requires c κs = search needs
 
 returns : tie.Need-returns
-returns c = c .refused .ensures ∙ fit-wider _ _ (c .before .if1 .taken)
+returns c = c .refused .ensures ∙ refused-fit _ _ _ (c .before .before .fit .ensures) (c .before .match .keys2)
 
-refused-requires-2 : tie.Need-refused-requires-2
-refused-requires-2 c κs = search needs
+chosen-three-requires : tie.Need-chosen-three-requires
+chosen-three-requires c κs = placed-fitting _ _ _ (c .before .before .before .pre) (sym (c .before .before .fit .ensures) ∙ c .enum-told .given .1)
 
 returns-2 : tie.Need-returns-2
-returns-2 c = let e1 = c .before .before .before .before in c .refused2 .ensures ∙ fit-taller _ _ (e1 .if1 .left) (c .before .if2 .taken)
-
-refused-requires-3 : tie.Need-refused-requires-3
-refused-requires-3 c κs = search needs
-
-returns-3 : tie.Need-returns-3
-returns-3 c = let e2 = c .before .before .before .before in let e1 = e2 .before .before .before in c .refused3 .ensures ∙ fit-deeper _ _ (e1 .if1 .left) (e2 .if2 .left) (c .before .if3 .taken)
-
-place-requires : tie.Need-place-requires
-place-requires c κs = search needs
-
-returns-4 : tie.Need-returns-4
-returns-4 c = let e2 = c .before .before .before .before in let e1 = e2 .before .before .before in c .place .ensures ∙ fit-placed _ _ (e1 .if1 .left) (e2 .if2 .left) (c .before .if3 .left)
+returns-2 c =
+    let f = c .before .before .before in
+    let p = placed-is _ _ _ (f .before .pre) (sym (f .fit .ensures) ∙ c .before .enum-told .given .1) in
+    beside _ _ _ (f .fit .ensures) (c .chosen-three .ensures ∙ ap (λ (t : Tried). t .sections) (sym p))
 
 pub try-place-spec : {M : Type 1} → statement M
 try-place-spec =
     tie.close
-    (tie.spec
-    refused-requires
-    returns
-    refused-requires-2
-    returns-2
-    refused-requires-3
-    returns-3
-    place-requires
-    returns-4)
+    (tie.spec fit-requires enum-told refused-requires returns chosen-three-requires returns-2)

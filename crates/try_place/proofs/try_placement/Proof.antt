@@ -1,57 +1,62 @@
-use mathlib.Core.Path.{_≡_, sym, _∙_}
-use mathlib.Core.Bool.{true}
-use borrow.Author.Tests.{not-true, not-false}
-use Rattle.try_place.specs.Try.{sectionOk}
-use Rattle.try_place.proofs.Trying.{try-section, try-rectangle, try-fit, try-numbers, reachable}
+use mathlib.Core.Path.{_≡_, sym, ap, _∙_}
+use Rattle.try_place.specs.declared.Tried.{Tried}
+use Rattle.try_place.specs.declared.packed_location.PackedLocation.{PackedLocation}
+use Rattle.try_place.specs.declared.Placement.the-variants.{Placed}
+use Rattle.bin_section.specs.declared.rect_to_insert.RectToInsert.{RectToInsert}
+use Rattle.bin_section.specs.declared.section.BinSection.{BinSection}
+use Rattle.try_place.specs.Splits.{Fitting}
+use Rattle.try_place.specs.Try.{placedOf, tryOf}
+use Rattle.try_place.proofs.Trying.{try-fit, try-numbers, reachable}
+use Rattle.try_place.proofs.Remaining.{placed-fitting, placed-is}
+use Rattle.try_place.proofs.Refusing.{refused-try, beside, placed-passed}
 use borrow.Author.Needs.{needs}
 use Rattle.try_place.proofs.try_placement.Statement.{statement}
 use Rattle.try_place.proofs.try_placement.Tie as tie
 
--- what is known past the first check
-ok1 : (c : tie.Else1) → sectionOk (c .before .before .args .section) ≡ true
-ok1 c = sym (c .before .in-range .ensures) ∙ not-false _ (c .if1 .left)
+-- a try that is placed is the fit of a section that passed the checks
+module _ (s : BinSection) (r : RectToInsert) (l : PackedLocation) (e : tryOf s r .answer ≡ Placed l) where
+  fits : tryOf s r ≡ placedOf s r
+  fits =
+      let ok = placed-passed s r l e in
+      let f = try-fit s r (ok .0) (ok .1) in
+      sym f ∙ placed-is s r l (reachable s (ok .0)) (ap (λ (t : Tried). t .answer) f ∙ e)
 
-in-range-requires : tie.Need-in-range-requires
-in-range-requires c κs = search needs
+  fitting : Fitting s r
+  fitting =
+      let ok = placed-passed s r l e in
+      placed-fitting s r l (reachable s (ok .0)) (ap (λ (t : Tried). t .answer) (try-fit s r (ok .0) (ok .1)) ∙ e)
+
+answer-to-requires : tie.Need-answer-to-requires
+answer-to-requires c κs = search needs
+
+enum-told : tie.Need-enum-told
+enum-told c = search needs
 
 refused-requires : tie.Need-refused-requires
 refused-requires c κs = search needs
 
 returns : tie.Need-returns
 returns c =
-    let e = c .refused .ensures ∙ try-section _ _ (sym (c .before .before .in-range .ensures) ∙ not-true _ (c .before .if1 .taken)) in
+    let e = c .refused .ensures ∙ refused-try _ _ _ (c .before .before .answer-to .ensures) (c .before .match .keys2) in
     (e, try-numbers _ _ _ e)
 
-in-range-requires-2 : tie.Need-in-range-requires-2
-in-range-requires-2 c κs = search needs
-
-refused-requires-2 : tie.Need-refused-requires-2
-refused-requires-2 c κs = search needs
+chosen-three-requires : tie.Need-chosen-three-requires
+chosen-three-requires c κs = fitting _ _ _ (sym (c .before .before .answer-to .ensures) ∙ c .enum-told .given .1)
 
 returns-2 : tie.Need-returns-2
 returns-2 c =
-    let t = c .before in
-    let e = c .refused2 .ensures ∙ try-rectangle _ _ (ok1 (t .before .before)) (sym (t .before .in-range2 .ensures) ∙ not-true _ (t .if2 .taken)) in
-    (e, try-numbers _ _ _ e)
-
-try-place-requires : tie.Need-try-place-requires
-try-place-requires c κs = reachable _ (ok1 (c .before .before))
-
-returns-3 : tie.Need-returns-3
-returns-3 c =
-    let t = c .before in
-    let e = c .try-place .ensures ∙ try-fit _ _ (ok1 (t .before .before)) (sym (t .before .in-range2 .ensures) ∙ not-false _ (t .if2 .left)) in
+    let a = c .before .before .before in
+    let p = fits _ _ _ (sym (a .answer-to .ensures) ∙ c .before .enum-told .given .1) in
+    let e = beside _ _ _ (a .answer-to .ensures) (c .chosen-three .ensures ∙ ap (λ (t : Tried). t .sections) (sym p)) in
     (e, try-numbers _ _ _ e)
 
 pub try-placement-spec : {M : Type 1} → statement M
 try-placement-spec =
     tie.close
     (tie.spec
-    in-range-requires
+    answer-to-requires
+    enum-told
     refused-requires
     returns
-    in-range-requires-2
-    refused-requires-2
-    returns-2
-    try-place-requires
-    returns-3)
+    chosen-three-requires
+    returns-2)
