@@ -4,3 +4,4 @@ pub mod Replying
 pub mod Summing
 pub mod Tests
 pub mod TwoLists
+pub mod Nearing

@@ -1,18 +1,16 @@
 // What the replies 16, 17 and 18 test of the boxes.
 ghost use mathlib.Core.Path.{_≡_};
-ghost use Prim.Native.Nat.{_+_, _*_, _/_, _≤_, _<_};
+ghost use Prim.Native.Nat.{_+_, _/_, _≤_, _<_};
 ghost use lib.Dec.{eqb};
 ghost use lib.ListN.{length};
-ghost use Rattle.lists.specs.Lowest.{lowest, anyBelow};
+ghost use Rattle.lists.specs.Lowest.{lowest};
 ghost use Rattle.bin_section.specs.Sides.{volumeOf, Small};
-ghost use Rattle.bin_section.specs.Section.{sectionAt};
-ghost use Rattle.bin_section.specs.Overlap.{overlapsOf};
 ghost use Rattle.bin_section.specs.Inside.{outside};
 ghost use Rattle.cells.specs.Whole.{boxAt, AllInside, volumes};
 ghost use Rattle.audit.specs.Audit.{auditBoxes, sharesEarlier};
 use crate::boxes::box_at;
 use crate::boxes::boxes_in;
-use bin_section::BinSection;
+use crate::near::shares_with;
 use bin_section::WidthHeightDepth;
 use bin_section::inside;
 
@@ -29,21 +27,6 @@ pub fn first_outside(whd: WidthHeightDepth, placed: &[u32], free: &[u32]) -> usi
         i += 1;
     }
     n
-}
-
-// Whether one of the first n boxes of a list shares a cell with b.
-fn shares_with(words: &[u32], n: usize, b: BinSection) -> bool
-    requires { ⌜ n * 6 ≤ length (now words) ⌝ }
-    ensures { λ r. ⌜ r ≡ anyBelow n (λ i. overlapsOf (sectionAt (now (words .entry)) i) b) ⌝ }
-{
-    let mut i = 0;
-    while i < n {
-        if BinSection::read(words, i).overlaps(b) {
-            return true;
-        }
-        i += 1;
-    }
-    false
 }
 
 // Whether box j shares a cell with an earlier one: box j is read once, the earlier ones list by list.

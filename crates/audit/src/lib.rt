@@ -10,6 +10,7 @@ ghost use Rattle.audit.specs.Place.{LiesAt, ShownAt};
 
 mod boxes;
 mod checks;
+mod near;
 
 use bin_section::BinSection;
 use bin_section::Reply;
