@@ -12,8 +12,8 @@ use Rattle.lists.proofs.Flags.{cond-yes, cond-no, not-yes, not-no}
 use Rattle.text.specs.Ascii.{ascii}
 use Rattle.plan_list.specs.declared.list.ListRead.{ListRead}
 use Rattle.plan_list.specs.Words.{sameBytes}
-use Rattle.plan_list.specs.Number.{said}
-use Rattle.plan_list.specs.List.{Reading, slipped, saidAt, groupSaid, chamberWith, coilWith, addChamber, addCoil, addWords}
+use Rattle.plan_list.specs.Number.{noNumber, said}
+use Rattle.plan_list.specs.List.{Reading, slipped, saidAt, aboveZero, groupSaid, chamberWith, coilWith, addChamber, addCoil, addWords}
 use Rattle.plan_list.specs.Table.{readingOf, slippedRead, Few, Step, ChamberStep, CoilStep}
 use Rattle.plan_list.proofs.Records.{step-slipped, step-as}
 
@@ -26,11 +26,20 @@ module _ (word w : List ℕ) (t : Bool) (e : word ≡ w) (p : t ≡ sameBytes wo
 
   pub group-none : t ≡ true → 0 ≡ groupSaid w
   unfolding groupSaid
-  group-none q = sym (cond-yes 0 (said w) (sameBytes w (ascii "none")) (sym here ∙ q))
+  group-none q = sym (cond-yes 0 (aboveZero (said w)) (sameBytes w (ascii "none")) (sym here ∙ q))
 
-  pub group-said : (n : ℕ) → t ≡ false → n ≡ said word → n ≡ groupSaid w
-  unfolding groupSaid
-  group-said n q f = f ∙ ap said e ∙ sym (cond-no 0 (said w) (sameBytes w (ascii "none")) (sym here ∙ q))
+  module _ (n : ℕ) (q : t ≡ false) (f : n ≡ said word) where
+    opened : aboveZero n ≡ groupSaid w
+    unfolding groupSaid
+    opened = ap aboveZero (f ∙ ap said e) ∙ sym (cond-no 0 (aboveZero (said w)) (sameBytes w (ascii "none")) (sym here ∙ q))
+
+    pub group-zero : n ≡ 0 → noNumber ≡ groupSaid w
+    unfolding aboveZero
+    group-zero z = sym (cond-yes noNumber n (eqb n 0) (eq-eqb n 0 z)) ∙ opened
+
+    pub group-said : ¬ (n ≡ 0) → n ≡ groupSaid w
+    unfolding aboveZero
+    group-said z = sym (cond-no noNumber n (eqb n 0) (ne-eqb n 0 z)) ∙ opened
 
 -- ---- a chamber's line and a coil's
 

@@ -5,3 +5,4 @@ pub mod Comparing
 pub mod Records
 pub mod Adding
 pub mod Lines
+pub mod Examples

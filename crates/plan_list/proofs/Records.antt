@@ -5,7 +5,7 @@ use mathlib.Core.List.{List, [], _∷_, _++_}
 use mathlib.Core.Bool.{Bool}
 use native.Mathlib.Numerals.{add-one}
 use native.Mathlib.Omega.{arith}
-use borrow.Author.Tests.{lt-ltb, le-ltb, le-leb, lt-leb, leb-false}
+use borrow.Author.Tests.{lt-ltb, le-ltb, le-leb, lt-leb, leb-false, eq-eqb, ne-eqb}
 use lib.Dec.{ltb, leb}
 use lib.ListN.{length, getD, take, drop, set, length-take, length-append}
 use lib.Seq.{take-suc-set, take-at}
@@ -14,7 +14,7 @@ use Rattle.lists.proofs.Lowests.{None, none-zero, none-more, lowest-here, lowes
 use Rattle.lists.proofs.Flags.{cond-yes, cond-no}
 use Rattle.plan_list.specs.declared.list.ListRead.{ListRead}
 use Rattle.plan_list.specs.Number.{noNumber}
-use Rattle.plan_list.specs.List.{Reading, slipped, withChamber, withCoil, firstUnsaid, chamberWith, coilWith}
+use Rattle.plan_list.specs.List.{Reading, slipped, withChamber, withCoil, firstUnsaid, chamberWith, coilSlip, coilWith}
 use Rattle.plan_list.specs.Table.{readingOf, slippedRead, Few, Step, ChamberStep, CoilStep}
 
 -- ---- the first that is no number
@@ -166,16 +166,17 @@ module _ (id w h d n : ℕ) (e : n ≡ firstUnsaid (id ∷ w ∷ h ∷ d ∷ [])
       }
 
 module _ (id g w h d n : ℕ) (e : n ≡ firstUnsaid (id ∷ g ∷ w ∷ h ∷ d ∷ [])) (l l′ : ListRead) (few : Few l) where
-  pub coil-slip : (c f : List ℕ) → n < 5 → l′ ≡ slippedRead 4 (n + 2) l → CoilStep (coilWith id g w h d) l l′ c f c f
+  pub coil-slip : (c f : List ℕ) (k : ℕ) → n < 5 → k ≡ coilSlip n → l′ ≡ slippedRead k (n + 2) l → CoilStep (coilWith id g w h d) l l′ c f c f
   unfolding coilWith
-  coil-slip c f lt q =
+  coil-slip c f k lt p q =
       record {
         step = λ a b.
             subst⁻¹ (λ (x : ListRead). Step (coilWith id g w h d) l x a b c f a b c f) q
-            (step-as (coilWith id g w h d) (slipped 4 (n + 2)) l (slippedRead 4 (n + 2) l) a b c f a b c f (step-slipped l few 4 (n + 2) a b c f)
-            (cond-yes (slipped 4 (firstUnsaid (id ∷ g ∷ w ∷ h ∷ d ∷ []) + 2) (readingOf l a b c f)) (withCoil id g w h d (readingOf l a b c f))
+            (step-as (coilWith id g w h d) (slipped k (n + 2)) l (slippedRead k (n + 2) l) a b c f a b c f (step-slipped l few k (n + 2) a b c f)
+            (cond-yes (slipped (coilSlip (firstUnsaid (id ∷ g ∷ w ∷ h ∷ d ∷ []))) (firstUnsaid (id ∷ g ∷ w ∷ h ∷ d ∷ []) + 2) (readingOf l a b c f)) (withCoil id g w h d (readingOf l a b c f))
             (ltb (firstUnsaid (id ∷ g ∷ w ∷ h ∷ d ∷ [])) 5) (lt-ltb (firstUnsaid (id ∷ g ∷ w ∷ h ∷ d ∷ [])) 5 (omega arith))
-            ∙ ap (λ (k : ℕ). slipped 4 (k + 2) (readingOf l a b c f)) (sym e)));
+            ∙ ap (λ (m : ℕ). slipped (coilSlip m) (m + 2) (readingOf l a b c f)) (sym e)
+            ∙ ap (λ (m : ℕ). slipped m (n + 2) (readingOf l a b c f)) (sym p)));
       }
 
   pub coil-add :
@@ -195,6 +196,14 @@ module _ (id g w h d n : ℕ) (e : n ≡ firstUnsaid (id ∷ g ∷ w ∷ h ∷ d
             subst⁻¹ (λ (x : ListRead). Step (coilWith id g w h d) l x a b c f a b c′ f′) q
             (step-as (coilWith id g w h d) (withCoil id g w h d) l (record { chambers = l .chambers; coils = l .coils + 1; line = l .line; slip = l .slip; word = l .word }) a b c f a b c′ f′
             (step-coil l few id g w h d c f c′ f′ a b room lc lf pc pf)
-            (cond-no (slipped 4 (firstUnsaid (id ∷ g ∷ w ∷ h ∷ d ∷ []) + 2) (readingOf l a b c f)) (withCoil id g w h d (readingOf l a b c f))
+            (cond-no (slipped (coilSlip (firstUnsaid (id ∷ g ∷ w ∷ h ∷ d ∷ []))) (firstUnsaid (id ∷ g ∷ w ∷ h ∷ d ∷ []) + 2) (readingOf l a b c f)) (withCoil id g w h d (readingOf l a b c f))
             (ltb (firstUnsaid (id ∷ g ∷ w ∷ h ∷ d ∷ [])) 5) (le-ltb (firstUnsaid (id ∷ g ∷ w ∷ h ∷ d ∷ [])) 5 (omega arith))));
       }
+
+pub group-slip : (n : ℕ) → n ≡ 1 → 8 ≡ coilSlip n
+unfolding coilSlip
+group-slip n e = rw (eq-eqb n 1 e)
+
+pub number-slip : (n : ℕ) → ¬ (n ≡ 1) → 4 ≡ coilSlip n
+unfolding coilSlip
+number-slip n e = rw (ne-eqb n 1 e)

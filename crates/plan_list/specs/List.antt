@@ -1,4 +1,4 @@
--- The planner's list: "chamber ID WIDTH HEIGHT DEPTH" or "coil ID GROUP WIDTH HEIGHT DEPTH" a line, the group a number or "none".
+-- The planner's list: "chamber ID WIDTH HEIGHT DEPTH" or "coil ID GROUP WIDTH HEIGHT DEPTH" a line, the group a number above 0 or "none".
 -- Blank lines and comments say nothing. The first slip of the pen ends the reading.
 use Prim.Native.Nat.{ℕ, _+_}
 use mathlib.Core.List.{List, [], _∷_, _++_}
@@ -15,10 +15,11 @@ use Rattle.plan_list.specs.Number.{noNumber, said}
 
 -- what was read: the tables for a pack, the line of each chamber and of each coil, how many lines were looked at, and the slip in the last
 -- of them, with the word that it is about. Slips:
---   0 none                              4 the word is no number from 0 to 4,294,967,295
---   1 neither a chamber nor a coil      5 more than 16 chambers
---   2 a chamber with other words        6 more than 63 coils
---   3 a coil with other words           7 the text is longer than 65,536 bytes
+--   0 none                                        5 more than 16 chambers
+--   1 neither a chamber nor a coil                6 more than 63 coils
+--   2 a chamber of another number of words        7 the text is longer than 65,536 bytes
+--   3 a coil of another number of words           8 the word is no group
+--   4 the word is no number from 0 to 4,294,967,295
 pub record Reading : Type 0 where
   pub chambers : List ℕ
   pub chamberLines : List ℕ
@@ -90,17 +91,26 @@ unfoldable pub chamberWith : ℕ → ℕ → ℕ → ℕ → Reading → Reading
 chamberWith id w h d r =
     let bad = firstUnsaid (id ∷ w ∷ h ∷ d ∷ []) in cond (ltb bad 4) (slipped 4 (bad + 2) r) (withChamber id w h d r)
 
+-- the second number is the group
+unfoldable pub coilSlip : ℕ → ℕ
+coilSlip bad = cond (eqb bad 1) 8 4
+
 unfoldable pub coilWith : ℕ → ℕ → ℕ → ℕ → ℕ → Reading → Reading
 coilWith id group w h d r =
-    let bad = firstUnsaid (id ∷ group ∷ w ∷ h ∷ d ∷ []) in cond (ltb bad 5) (slipped 4 (bad + 2) r) (withCoil id group w h d r)
+    let bad = firstUnsaid (id ∷ group ∷ w ∷ h ∷ d ∷ []) in
+    cond (ltb bad 5) (slipped (coilSlip bad) (bad + 2) r) (withCoil id group w h d r)
 
 -- the number that the word at an index says
 abbrev pub saidAt : List (List ℕ) → ℕ → ℕ
 saidAt words k = said (getD words k [])
 
+-- a group's number is above 0, which stands for none in the table: a group that is typed as 0 is a slip
+unfoldable pub aboveZero : ℕ → ℕ
+aboveZero n = cond (eqb n 0) noNumber n
+
 -- a group, or none
 unfoldable pub groupSaid : List ℕ → ℕ
-groupSaid word = cond (sameBytes word (ascii "none")) 0 (said word)
+groupSaid word = cond (sameBytes word (ascii "none")) 0 (aboveZero (said word))
 
 -- chamber ID WIDTH HEIGHT DEPTH
 unfoldable pub addChamber : List (List ℕ) → Reading → Reading

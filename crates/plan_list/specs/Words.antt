@@ -10,7 +10,8 @@ use Rattle.lists.specs.Lowest.{lowest, anyBelow}
 abbrev pub isBlank : ℕ → Bool
 isBlank b = eqb b 32 || (eqb b 9 || eqb b 13)
 
--- whether a byte is of a kind: 256 is a blank, 257 anything but a blank, and a number below them that byte alone
+-- whether a byte is of a kind: 256 is a blank, 257 anything but a blank (the code looks for where a word starts), and a number below them that
+-- byte alone
 unfoldable pub isOf : ℕ → ℕ → Bool
 isOf kind b = cond (eqb kind 256) (isBlank b) (cond (eqb kind 257) (not (isBlank b)) (eqb b kind))
 

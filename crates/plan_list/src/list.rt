@@ -6,7 +6,7 @@ ghost use Prim.Native.Nat.{_+_, _*_, _≤_, _<_};
 ghost use lib.ListN.{length, getD, drop};
 ghost use Rattle.lists.specs.Tab.{put};
 ghost use Rattle.plan_list.specs.Words.{isOf, firstOf, uncommented, wordsOf, linesOf};
-ghost use Rattle.plan_list.specs.List.{firstUnsaid, chamberWith, coilWith, saidAt, groupSaid, addChamber, addCoil, addWords, addLines, atLine, lineAt, readOf};
+ghost use Rattle.plan_list.specs.List.{firstUnsaid, chamberWith, coilSlip, coilWith, saidAt, groupSaid, addChamber, addCoil, addWords, addLines, atLine, lineAt, readOf};
 ghost use Rattle.plan_list.specs.Table.{readingOf, startAt, nextRead, slippedRead, Few, Sized, Step, ChamberStep, CoilStep};
 use crate::number::Number;
 use crate::number::number_of;
@@ -32,6 +32,11 @@ pub struct ListRead {
 impl ListRead {
     // The longest text.
     pub const MOST: usize = 65536;
+
+    // The words of a line: its first word, and the numbers.
+    pub const CHAMBER_LINE: usize = 5;
+
+    pub const COIL_LINE: usize = 6;
 
     // The words of the tables.
     pub const CHAMBER_TABLE: usize = TargetBin::MOST * TargetBin::WORDS;
@@ -141,6 +146,16 @@ fn chamber_with(
     }
 }
 
+// What is wrong where the number at an index is missing: the second is the group.
+fn coil_slip(bad: usize) -> u32
+    ensures { λ r. ⌜ r ≡ coilSlip bad ⌝ }
+{
+    if bad == 1 {
+        return Slip::NO_GROUP;
+    }
+    Slip::NO_NUMBER
+}
+
 // One coil more, if its words are numbers.
 fn coil_with(
     id: u64,
@@ -158,7 +173,7 @@ fn coil_with(
     let numbers = [id, group, width, height, depth];
     let bad = first_unsaid(&numbers);
     if bad < 5 {
-        return l.slipped(Slip::NO_NUMBER, bad as u32 + 2);
+        return l.slipped(coil_slip(bad), bad as u32 + 2);
     }
     let n = l.coils;
     write_record(
@@ -198,7 +213,11 @@ fn group_at(line: &[u8]) -> u64
     if same_bytes(word, b"none") {
         return 0;
     }
-    number_of(word)
+    let group = number_of(word);
+    if group == 0 {
+        return Number::NONE;
+    }
+    group
 }
 
 fn add_chamber(
@@ -211,7 +230,7 @@ fn add_chamber(
     requires { ⌜ Few l × (words ≡ length (wordsOf (now line))) × (length (now chambers) ≡ 80) × (length (now lines) ≡ 16) ⌝ }
     ensures { λ r. ⌜ ChamberStep (addChamber (wordsOf (now (line .entry)))) l r (now (chambers .entry)) (now (lines .entry)) (now (chambers .exit)) (now (lines .exit)) ⌝ }
 {
-    if words != 5 {
+    if words != ListRead::CHAMBER_LINE {
         return l.slipped(Slip::CHAMBER_WORDS, 0);
     }
     if l.chambers == TargetBin::MOST {
@@ -234,7 +253,7 @@ fn add_coil(
     requires { ⌜ Few l × (words ≡ length (wordsOf (now line))) × (length (now coils) ≡ 315) × (length (now lines) ≡ 63) ⌝ }
     ensures { λ r. ⌜ CoilStep (addCoil (wordsOf (now (line .entry)))) l r (now (coils .entry)) (now (lines .entry)) (now (coils .exit)) (now (lines .exit)) ⌝ }
 {
-    if words != 6 {
+    if words != ListRead::COIL_LINE {
         return l.slipped(Slip::COIL_WORDS, 0);
     }
     if l.coils == RectToPlace::MOST {

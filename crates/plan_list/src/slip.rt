@@ -15,4 +15,6 @@ impl Slip {
     pub const MANY_COILS: u32 = 6;
 
     pub const TOO_LONG: u32 = 7;
+
+    pub const NO_GROUP: u32 = 8;
 }

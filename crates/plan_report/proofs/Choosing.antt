@@ -2,15 +2,16 @@
 use Prim.Native.Nat.{ℕ}
 use mathlib.Core.Path.{_≡_}
 use mathlib.Core.List.{List, _++_}
+use mathlib.Core.Bool.{true, false}
 use borrow.Author.Tests.{ne-eqb}
 use lib.ListN.{getD}
 use Rattle.bin_section.specs.declared.reply.Reply.{Reply}
-use Rattle.plan_report.specs.Texts.{nothingPlaced, slipText, slipSaid, refusalText, refusal, lineOf, goesTo, coilTexts, summary, packReport}
+use Rattle.plan_report.specs.Texts.{nothingPlaced, slipText, slipSaid, refusalText, refusal, namesChamber, lineOf, goesTo, coilTexts, summary, packReport}
 
 module _ (slip : ℕ) where
-  pub slip-long : ¬ (slip ≡ 1) → ¬ (slip ≡ 2) → ¬ (slip ≡ 3) → ¬ (slip ≡ 5) → ¬ (slip ≡ 6) → slipText 7 ≡ slipText slip
+  pub slip-long : ¬ (slip ≡ 1) → ¬ (slip ≡ 2) → ¬ (slip ≡ 3) → ¬ (slip ≡ 5) → ¬ (slip ≡ 6) → ¬ (slip ≡ 8) → slipText 7 ≡ slipText slip
   unfolding slipText
-  slip-long a b c d e = rw (ne-eqb slip 1 a, ne-eqb slip 2 b, ne-eqb slip 3 c, ne-eqb slip 5 d, ne-eqb slip 6 e)
+  slip-long a b c d e f = rw (ne-eqb slip 1 a, ne-eqb slip 2 b, ne-eqb slip 3 c, ne-eqb slip 5 d, ne-eqb slip 6 e, ne-eqb slip 8 f)
 
   -- about no word
   pub slip-other : (word : ℕ) → ¬ (slip ≡ 4) → slipText slip ≡ slipSaid slip word
@@ -26,13 +27,13 @@ unfolding goesTo
 goes-waits placed chamber x y z a = rw (ne-eqb placed 1 a)
 
 module _ (chamberLines coilLines : List ℕ) (r : Reply) where
-  pub line-chamber : r .number ≡ 2 → getD chamberLines (r .detail) 0 ≡ lineOf chamberLines coilLines r
+  pub line-chamber : namesChamber (r .number) ≡ true → getD chamberLines (r .detail) 0 ≡ lineOf chamberLines coilLines r
   unfolding lineOf
   line-chamber e = rw e
 
-  pub line-coil : ¬ (r .number ≡ 2) → getD coilLines (r .detail) 0 ≡ lineOf chamberLines coilLines r
+  pub line-coil : namesChamber (r .number) ≡ false → getD coilLines (r .detail) 0 ≡ lineOf chamberLines coilLines r
   unfolding lineOf
-  line-coil a = rw (ne-eqb (r .number) 2 a)
+  line-coil a = rw a
 
   module _ (coils placements : List ℕ) (n : ℕ) where
     pub report-packed :

@@ -23,7 +23,7 @@ packed = refl
 
 partly :
     packReport (2 ∷ []) (3 ∷ 5 ∷ []) coils (first ++ (0 ∷ 0 ∷ 0 ∷ 0 ∷ 0 ∷ [])) 2 (reply 7 1)
-    ≡ ascii "coil 7 goes to chamber 3 at 100 0 65535\ncoil 12 waits\nline 5: refused with 7: no chamber takes the coil with its whole group; it waits, and so does every group after it\n1 placed, 1 waiting\n"
+    ≡ ascii "coil 7 goes to chamber 3 at 100 0 65535\ncoil 12 waits\nline 5: refused with 7: no chamber takes the coil with its whole group; it waits, and so do the groups after it, by falling volume\n1 placed, 1 waiting\n"
 unfolding coils first ascii digitsIn decimal picked lineTag refusalText lineOf refusal placeText goesTo coilText coilTexts placedIn summary packReport
 partly = refl
 

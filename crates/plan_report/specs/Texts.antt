@@ -1,7 +1,7 @@
 -- What the planner's program writes, text by text.
 use Prim.Native.Nat.{ℕ, zero, suc, _+_, _*_, _-_}
 use mathlib.Core.List.{List, [], _++_}
-use mathlib.Core.Bool.{cond}
+use mathlib.Core.Bool.{Bool, _||_, cond}
 use lib.Dec.{eqb}
 use lib.ListN.{length, getD}
 use Rattle.lists.specs.Pick.{picked}
@@ -22,7 +22,9 @@ slipText slip =
     (cond (eqb slip 2) (ascii "a chamber is five words: chamber, id, width, height, depth\n")
     (cond (eqb slip 3) (ascii "a coil is six words: coil, id, group or none, width, height, depth\n")
     (cond (eqb slip 5) (ascii "there are more than 16 chambers\n")
-    (cond (eqb slip 6) (ascii "there are more than 63 coils\n") (ascii "the list is longer than 65536 bytes\n")))))
+    (cond (eqb slip 6) (ascii "there are more than 63 coils\n")
+    (cond (eqb slip 8) (ascii "a coil's group is a number from 1 to 4294967295, or none\n")
+    (ascii "the list is longer than 65536 bytes\n"))))))
 
 -- a slip that is about one word names it
 unfoldable pub slipSaid : ℕ → ℕ → List ℕ
@@ -39,12 +41,17 @@ refusalText number =
     cond (eqb number 2) (ascii "the chamber's id is not above the one before it, or a side is not 1 to 65535\n")
     (cond (eqb number 4) (ascii "a side of the coil is not 1 to 65535\n")
     (cond (eqb number 5) (ascii "the coil's id stands on an earlier line too\n")
-    (cond (eqb number 7) (ascii "no chamber takes the coil with its whole group; it waits, and so does every group after it\n")
+    (cond (eqb number 7) (ascii "no chamber takes the coil with its whole group; it waits, and so do the groups after it, by falling volume\n")
     (ascii "the list can't be packed\n"))))
 
--- the line of the list that a refusal points at: 2 names a chamber, the others a coil
+-- 2, 3 and 6 have the "chamber index" as their detail, the others a rectangle's
+abbrev pub namesChamber : ℕ → Bool
+namesChamber number = eqb number 2 || (eqb number 3 || eqb number 6)
+
+-- the line of the list that a refusal points at
 unfoldable pub lineOf : List ℕ → List ℕ → Reply → ℕ
-lineOf chamberLines coilLines r = cond (eqb (r .number) 2) (getD chamberLines (r .detail) 0) (getD coilLines (r .detail) 0)
+lineOf chamberLines coilLines r =
+    cond (namesChamber (r .number)) (getD chamberLines (r .detail) 0) (getD coilLines (r .detail) 0)
 
 -- "the number with what it means in words and the line of the list it points at"
 unfoldable pub refusal : ℕ → ℕ → List ℕ

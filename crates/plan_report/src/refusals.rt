@@ -3,7 +3,7 @@ ghost use mathlib.Core.Path.{_≡_};
 ghost use Prim.Native.Nat.{_+_, _≤_};
 ghost use lib.ListN.{length, getD};
 ghost use Rattle.text.specs.Written.{Written};
-ghost use Rattle.plan_report.specs.Texts.{refusalText, refusal, lineOf};
+ghost use Rattle.plan_report.specs.Texts.{refusalText, refusal, namesChamber, lineOf};
 use crate::phrases::write_line_tag;
 use bin_section::Reply;
 use text::write_item;
@@ -17,16 +17,20 @@ impl PackReply {
 
     pub const BAD_CHAMBER: u32 = 2;
 
+    pub const BAD_SECTION: u32 = 3;
+
     pub const BAD_SIDE: u32 = 4;
 
     pub const SAME_ID: u32 = 5;
+
+    pub const TOO_FULL: u32 = 6;
 
     pub const NO_ROOM: u32 = 7;
 }
 
 fn write_refusal_text(out: &mut [u8], at: usize, number: u32) -> usize
-    requires { ⌜ at + 91 ≤ length (now out) ⌝ }
-    ensures { λ r. ⌜ Written at (refusalText number) (now (out .entry)) (now (out .exit)) r × (r ≤ at + 91) ⌝ }
+    requires { ⌜ at + 107 ≤ length (now out) ⌝ }
+    ensures { λ r. ⌜ Written at (refusalText number) (now (out .entry)) (now (out .exit)) r × (r ≤ at + 107) ⌝ }
 {
     if number == PackReply::BAD_CHAMBER {
         return write_text(
@@ -45,15 +49,15 @@ fn write_refusal_text(out: &mut [u8], at: usize, number: u32) -> usize
         return write_text(
             out,
             at,
-            b"no chamber takes the coil with its whole group; it waits, and so does every group after it\n",
+            b"no chamber takes the coil with its whole group; it waits, and so do the groups after it, by falling volume\n",
         );
     }
     write_text(out, at, b"the list can't be packed\n")
 }
 
 pub fn write_refusal(out: &mut [u8], at: usize, line: u32, number: u32) -> usize
-    requires { ⌜ at + 133 ≤ length (now out) ⌝ }
-    ensures { λ r. ⌜ Written at (refusal line number) (now (out .entry)) (now (out .exit)) r × (r ≤ at + 133) ⌝ }
+    requires { ⌜ at + 149 ≤ length (now out) ⌝ }
+    ensures { λ r. ⌜ Written at (refusal line number) (now (out .entry)) (now (out .exit)) r × (r ≤ at + 149) ⌝ }
 {
     let tag = write_line_tag(out, at, line);
     let refused = write_item(out, tag, b"refused with ", number);
@@ -71,11 +75,19 @@ fn line_at(lines: &[u32], i: usize) -> u32
     0
 }
 
+// Whether the detail of a reply is a chamber's index.
+fn names_chamber(number: u32) -> bool
+    ensures { λ r. ⌜ r ≡ namesChamber number ⌝ }
+{
+    (number == PackReply::BAD_CHAMBER)
+        | ((number == PackReply::BAD_SECTION) | (number == PackReply::TOO_FULL))
+}
+
 pub fn line_of(chamber_lines: &[u32], coil_lines: &[u32], answer: Reply) -> u32
     ensures { λ r. ⌜ r ≡ lineOf (now («chamber_lines» .entry)) (now («coil_lines» .entry)) answer ⌝ }
 {
     let i = answer.detail as usize;
-    if answer.number == PackReply::BAD_CHAMBER {
+    if names_chamber(answer.number) {
         return line_at(chamber_lines, i);
     }
     line_at(coil_lines, i)

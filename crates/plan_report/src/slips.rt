@@ -40,6 +40,13 @@ fn write_slip_text(out: &mut [u8], at: usize, slip: u32) -> usize
     if slip == Slip::MANY_COILS {
         return write_text(out, at, b"there are more than 63 coils\n");
     }
+    if slip == Slip::NO_GROUP {
+        return write_text(
+            out,
+            at,
+            b"a coil's group is a number from 1 to 4294967295, or none\n",
+        );
+    }
     write_text(out, at, b"the list is longer than 65536 bytes\n")
 }
 

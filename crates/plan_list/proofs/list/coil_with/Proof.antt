@@ -13,6 +13,9 @@ slice-aggregate-first-unsaid c = search needs
 first-unsaid-requires : tie.Need-first-unsaid-requires
 first-unsaid-requires c κs = search needs
 
+coil-slip-requires : tie.Need-coil-slip-requires
+coil-slip-requires c κs = search needs
+
 cast-slipped : tie.Need-cast-slipped
 cast-slipped c = search needs
 
@@ -23,7 +26,7 @@ slipped-requires : tie.Need-slipped-requires
 slipped-requires c κs = search needs
 
 returns : tie.Need-returns
-returns c = let a = c .before .before .before .before .before .before .args in coil-slip (a .id) (a .group) (a .width) (a .height) (a .depth) _ (c .before .before .first-unsaid .ensures .0) (a .l) _ (c .before .before .before .before .before .before .pre .0) _ _ (c .before .if1 .taken) (c .slipped .ensures)
+returns c = let a = c .before .before .before .before .before .before .before .args in coil-slip (a .id) (a .group) (a .width) (a .height) (a .depth) _ (c .before .before .before .first-unsaid .ensures .0) (a .l) _ (c .before .before .before .before .before .before .before .pre .0) _ _ _ (c .before .before .if1 .taken) (c .before .coil-slip .ensures) (c .slipped .ensures)
 
 cast-write-record : tie.Need-cast-write-record
 cast-write-record c = let a = c .before .before .before .before .before .before .args in fits-under _ _ 4294967296 (said-each (a .id ∷ a .group ∷ a .width ∷ a .height ∷ a .depth ∷ []) _ 0 (c .before .if1 .left) (c .before .before .first-unsaid .ensures .0) (omega arith)) tt
@@ -49,8 +52,8 @@ mul-lines c = search needs
 slice-write-lines : tie.Need-slice-write-lines
 slice-write-lines c = search needs
 
-add-t25 : tie.Need-add-t25
-add-t25 c = search needs
+add-t26 : tie.Need-add-t26
+add-t26 c = search needs
 
 same-length : tie.Need-same-length
 same-length c = search needs
@@ -67,6 +70,7 @@ coil-with-spec =
     (tie.spec
     slice-aggregate-first-unsaid
     first-unsaid-requires
+    coil-slip-requires
     cast-slipped
     add-slipped
     slipped-requires
@@ -79,7 +83,7 @@ coil-with-spec =
     write-record-requires
     mul-lines
     slice-write-lines
-    add-t25
+    add-t26
     same-length
     same-length-2
     returns-2)

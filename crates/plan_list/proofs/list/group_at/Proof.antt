@@ -1,4 +1,4 @@
-use Rattle.plan_list.proofs.Adding.{group-none, group-said}
+use Rattle.plan_list.proofs.Adding.{group-none, group-zero, group-said}
 use borrow.Author.Needs.{needs}
 use Rattle.plan_list.proofs.list.group_at.Statement.{statement}
 use Rattle.plan_list.proofs.list.group_at.Tie as tie
@@ -19,7 +19,10 @@ number-of-requires : tie.Need-number-of-requires
 number-of-requires c κs = search needs
 
 returns-2 : tie.Need-returns-2
-returns-2 c = group-said _ _ _ (c .before .before .before .before .word-at .ensures) (c .before .before .same-bytes .ensures) _ (c .before .if1 .left) (c .number-of .ensures)
+returns-2 c = group-zero _ _ _ (c .before .before .before .before .before .word-at .ensures) (c .before .before .before .same-bytes .ensures) _ (c .before .before .if1 .left) (c .before .number-of .ensures) (c .if2 .taken)
+
+returns-3 : tie.Need-returns-3
+returns-3 c = group-said _ _ _ (c .before .before .before .before .before .word-at .ensures) (c .before .before .before .same-bytes .ensures) _ (c .before .before .if1 .left) (c .before .number-of .ensures) (c .if2 .left)
 
 pub group-at-spec : {M : Type 1} → statement M
 group-at-spec =
@@ -30,4 +33,5 @@ group-at-spec =
     same-bytes-requires
     returns
     number-of-requires
-    returns-2)
+    returns-2
+    returns-3)

@@ -82,7 +82,20 @@ same-length-6 c = search needs
 
 returns-6 : tie.Need-returns-6
 unfolding ascii slipText
-returns-6 c = (written-as (slip-long _ (c .before .before .before .before .before .before .before .before .before .if1 .left) (c .before .before .before .before .before .before .before .before .if2 .left) (c .before .before .before .before .before .before .before .if3 .left) (c .before .before .before .before .before .before .if4 .left) (c .before .before .before .before .before .if5 .left)) (c .before .before .write-text6 .ensures), search needs)
+returns-6 c = (written-by slipText (c .before .before .before .before .before .if6 .taken) (c .before .before .write-text6 .ensures), search needs)
+
+slice-aggregate-write-text-7 : tie.Need-slice-aggregate-write-text-7
+slice-aggregate-write-text-7 c = search needs
+
+write-text-requires-7 : tie.Need-write-text-requires-7
+write-text-requires-7 c κs = search needs
+
+same-length-7 : tie.Need-same-length-7
+same-length-7 c = search needs
+
+returns-7 : tie.Need-returns-7
+unfolding ascii slipText
+returns-7 c = (written-as (slip-long _ (c .before .before .before .before .before .before .before .before .before .before .if1 .left) (c .before .before .before .before .before .before .before .before .before .if2 .left) (c .before .before .before .before .before .before .before .before .if3 .left) (c .before .before .before .before .before .before .before .if4 .left) (c .before .before .before .before .before .before .if5 .left) (c .before .before .before .before .before .if6 .left)) (c .before .before .write-text7 .ensures), search needs)
 
 pub write-slip-text-spec : {M : Type 1} → statement M
 write-slip-text-spec =
@@ -111,4 +124,8 @@ write-slip-text-spec =
     slice-aggregate-write-text-6
     write-text-requires-6
     same-length-6
-    returns-6)
+    returns-6
+    slice-aggregate-write-text-7
+    write-text-requires-7
+    same-length-7
+    returns-7)
