@@ -6,7 +6,6 @@ mod report;
 mod slips;
 mod summary;
 
-pub use refusals::PackReply;
 pub use report::Report;
 pub use report::write_report;
 pub use slips::write_slip;

@@ -2,5 +2,4 @@
 mod packed;
 mod plan;
 
-pub use plan::PlanTables;
 pub use plan::write_plan;

@@ -16,11 +16,11 @@ use plan_report::write_report;
 use plan_report::write_slip;
 use target_bin::TargetBin;
 
-pub struct PlanTables {}
+struct PlanTables {}
 
 impl PlanTables {
     // The words of the store for as many chambers as there can be.
-    pub const STORE: usize = TargetBin::MOST * TargetBin::STORE;
+    const STORE: usize = TargetBin::MOST * TargetBin::STORE;
 }
 
 // The report of the first n coils of longer tables, and of the first `bins` chambers.
