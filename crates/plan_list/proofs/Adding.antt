@@ -15,7 +15,7 @@ use Rattle.plan_list.specs.Words.{sameBytes}
 use Rattle.plan_list.specs.Number.{noNumber, said}
 use Rattle.plan_list.specs.List.{Reading, slipped, saidAt, aboveZero, groupSaid, chamberWith, coilWith, addChamber, addCoil, addWords}
 use Rattle.plan_list.specs.Table.{readingOf, slippedRead, Few, Step, ChamberStep, CoilStep}
-use Rattle.plan_list.proofs.Records.{step-slipped, step-as}
+use Rattle.plan_list.proofs.Records.{past-same, step-slipped, step-as}
 
 -- ---- the group
 
@@ -190,7 +190,7 @@ module _ (ws : List (List ℕ)) (l : ListRead) (a b c d : List ℕ) where
   pub words-nothing : Few l → length ws ≡ 0 → Step (addWords ws) l l a b c d a b c d
   unfolding addWords
   words-nothing few e =
-      record { same = sym (cond-yes now-read else-chamber (eqb (length ws) 0) (eq-eqb (length ws) 0 e)); few = few; line = refl }
+      record { same = sym (cond-yes now-read else-chamber (eqb (length ws) 0) (eq-eqb (length ws) 0 e)); few = few; line = refl; more = (omega arith, omega arith); past = past-same l a b c d }
 
   module _ (l′ : ListRead) (some : ¬ (length ws ≡ 0)) (w : List ℕ) (f : w ≡ getD ws 0 []) where
     begun : addWords ws now-read ≡ else-chamber

@@ -1,5 +1,5 @@
 -- Laws of a text read line after line.
-use Prim.Native.Nat.{ℕ, suc, _+_, _-_, _≤_, _<_}
+use Prim.Native.Nat.{ℕ, suc, _+_, _*_, _-_, _≤_, _<_}
 use mathlib.Core.Path.{_≡_, refl, sym, ap, ap₂, _∙_, subst}
 use mathlib.Core.List.{List, [], _∷_}
 use mathlib.Core.Logic.{_⊎_, inl, inr}
@@ -17,7 +17,8 @@ use Rattle.lists.proofs.Flags.{cond-yes, cond-no}
 use Rattle.plan_list.specs.declared.list.ListRead.{ListRead}
 use Rattle.plan_list.specs.Words.{isOf, firstOf, split, linesOf, uncommented, wordsOf}
 use Rattle.plan_list.specs.List.{Reading, atLine, slipped, addWords, addLine, addLines, lineAt, readOf}
-use Rattle.plan_list.specs.Table.{readingOf, startAt, nextRead, slippedRead, Few, Sized, Step}
+use Rattle.plan_list.specs.Table.{readingOf, startAt, nextRead, slippedRead, Few, Sized, Past, Step}
+use Rattle.plan_list.proofs.Records.{past-same}
 use Rattle.plan_list.proofs.Pieces.{kinds, first-most, first-none, first-fires, split-none, split-more}
 
 -- ---- one line
@@ -72,14 +73,37 @@ line-first text at e h q = lines-in text at h ∙ go (eq-or-lt-of-le (first-most
 
 -- ---- line after line
 
-pub record Going (text : List ℕ) (at : ℕ) (l : ListRead) (a b c d : List ℕ) : Type 0 where
+drop-more : (k m : ℕ) (x y : List ℕ) → k ≤ m → drop k x ≡ drop k y → drop m x ≡ drop m y
+drop-more k m x y h e =
+    ap (λ (n : ℕ). drop n x) (sym whole) ∙ sym (drop-drop (m - k) k x) ∙ ap (drop (m - k)) e ∙ drop-drop (m - k) k y ∙ ap (λ (n : ℕ). drop n y) whole
+  where
+    whole : k + (m - k) ≡ m
+    whole = omega arith
+
+-- two readings, the later one with no fewer chambers and coils
+past-then :
+    (l r : ListRead) (a b c d a′ b′ c′ d′ a″ b″ c″ d″ : List ℕ)
+    → (l .chambers ≤ r .chambers) × (l .coils ≤ r .coils)
+    → Past l a b c d a′ b′ c′ d′
+    → Past r a′ b′ c′ d′ a″ b″ c″ d″
+    → Past r a b c d a″ b″ c″ d″
+past-then l r a b c d a′ b′ c′ d′ a″ b″ c″ d″ m p q =
+    record {
+      chambers = q .chambers ∙ drop-more (l .chambers * 5) (r .chambers * 5) a′ a (omega (arith, m .0)) (p .chambers);
+      chamberLines = q .chamberLines ∙ drop-more (l .chambers) (r .chambers) b′ b (m .0) (p .chamberLines);
+      coils = q .coils ∙ drop-more (l .coils * 5) (r .coils * 5) c′ c (omega (arith, m .1)) (p .coils);
+      coilLines = q .coilLines ∙ drop-more (l .coils) (r .coils) d′ d (m .1) (p .coilLines);
+    }
+
+pub record Going (text : List ℕ) (a₀ b₀ c₀ d₀ : List ℕ) (at : ℕ) (l : ListRead) (a b c d : List ℕ) : Type 0 where
   pub rest : addLines (linesOf text) (atLine 0) ≡ addLines (linesFrom text at) (readingOf l a b c d)
   pub few : Few l
   pub sized : Sized a b c d
   pub line : l .line ≤ at
   pub short : length text ≤ 65536
+  pub past : Past l a₀ b₀ c₀ d₀ a b c d
 
-pub going-start : (text : List ℕ) (l : ListRead) (a b c d : List ℕ) → l ≡ startAt 0 → Sized a b c d → length text ≤ 65536 → Going text 0 l a b c d
+pub going-start : (text : List ℕ) (l : ListRead) (a b c d : List ℕ) → l ≡ startAt 0 → Sized a b c d → length text ≤ 65536 → Going text a b c d 0 l a b c d
 unfolding readingOf
 going-start text l a b c d e s h =
     record {
@@ -90,9 +114,10 @@ going-start text l a b c d e s h =
       sized = s;
       line = subst (λ (x : ListRead). x .line ≤ 0) (sym e) (omega arith);
       short = h;
+      past = past-same l a b c d;
     }
 
-module _ (text : List ℕ) (at : ℕ) (l r : ListRead) (a b c d a′ b′ c′ d′ : List ℕ) (g : Going text at l a b c d) (in-text : at ≤ length text) (end : ℕ) (q : end ≡ at + firstOf 10 (drop at text)) (s : Step (addWords (wordsOf (uncommented (take (end - at) (drop at text))))) (nextRead l) r a b c d a′ b′ c′ d′) where
+module _ (text a₀ b₀ c₀ d₀ : List ℕ) (at : ℕ) (l r : ListRead) (a b c d a′ b′ c′ d′ : List ℕ) (g : Going text a₀ b₀ c₀ d₀ at l a b c d) (in-text : at ≤ length text) (end : ℕ) (q : end ≡ at + firstOf 10 (drop at text)) (s : Step (addWords (wordsOf (uncommented (take (end - at) (drop at text))))) (nextRead l) r a b c d a′ b′ c′ d′) where
   added : readingOf r a′ b′ c′ d′ ≡ addLine (take (end - at) (drop at text)) (readingOf l a b c d)
   unfolding addLine readingOf
   added = s .same
@@ -110,7 +135,10 @@ module _ (text : List ℕ) (at : ℕ) (l r : ListRead) (a b c d a′ b′ c′ d
   pub going-slip : ¬ (r .slip ≡ 0) → readingOf r a′ b′ c′ d′ ≡ addLines (linesOf text) (atLine 0)
   going-slip n = sym (opened ∙ cond-no (addLines (linesFrom text (end + 1)) (readingOf r a′ b′ c′ d′)) (readingOf r a′ b′ c′ d′) (eqb (r .slip) 0) (ne-eqb (r .slip) 0 n))
 
-  pub going-on : r .slip ≡ 0 → Sized a′ b′ c′ d′ → Going text (end + 1) r a′ b′ c′ d′
+  pub going-past : Past r a₀ b₀ c₀ d₀ a′ b′ c′ d′
+  going-past = past-then l r a₀ b₀ c₀ d₀ a b c d a′ b′ c′ d′ (s .more) (g .past) (s .past)
+
+  pub going-on : r .slip ≡ 0 → Sized a′ b′ c′ d′ → Going text a₀ b₀ c₀ d₀ (end + 1) r a′ b′ c′ d′
   going-on z w =
       record {
         rest = opened ∙ cond-yes (addLines (linesFrom text (end + 1)) (readingOf r a′ b′ c′ d′)) (readingOf r a′ b′ c′ d′) (eqb (r .slip) 0) (eq-eqb (r .slip) 0 z);
@@ -118,11 +146,12 @@ module _ (text : List ℕ) (at : ℕ) (l r : ListRead) (a b c d a′ b′ c′ d
         sized = w;
         line = omega (arith, s .line, g .line, q);
         short = g .short;
+        past = going-past;
       }
 
-pub going-end : (text : List ℕ) (at : ℕ) (l : ListRead) (a b c d : List ℕ) → Going text at l a b c d → length text < at → readingOf l a b c d ≡ addLines (linesOf text) (atLine 0)
+pub going-end : (text a₀ b₀ c₀ d₀ : List ℕ) (at : ℕ) (l : ListRead) (a b c d : List ℕ) → Going text a₀ b₀ c₀ d₀ at l a b c d → length text < at → readingOf l a b c d ≡ addLines (linesOf text) (atLine 0)
 unfolding addLines
-going-end text at l a b c d g h =
+going-end text a₀ b₀ c₀ d₀ at l a b c d g h =
     sym (g .rest ∙ ap (λ (x : List (List ℕ)). addLines x (readingOf l a b c d)) (lines-past text at h))
 
 -- ---- the number of a line
@@ -170,7 +199,7 @@ pub read-too-long :
     → line ≡ lineAt text 65536
     → s ≡ startAt line
     → r ≡ slippedRead 7 0 s
-    → (readingOf r a b c d ≡ readOf text) × Few r
+    → (readingOf r a b c d ≡ readOf text) × Few r × Past r a b c d a b c d
 unfolding readOf readingOf
 read-too-long text a b c d s r line h e p q =
     let z : r ≡ slippedRead 7 0 (startAt line) = q ∙ ap (slippedRead 7 0) p in (
@@ -178,6 +207,7 @@ read-too-long text a b c d s r line h e p q =
           ∙ ap (λ (n : ℕ). slipped 7 0 (atLine n)) e
           ∙ sym (cond-yes (slipped 7 0 (atLine (lineAt text 65536))) (addLines (linesOf text) (atLine 0)) (ltb 65536 (length text)) (lt-ltb 65536 (length text) h)),
       subst (λ (x : ListRead). Few x) (sym z) (record { chambers = omega arith; coils = omega arith }),
+      past-same r a b c d,
     )
 
 pub read-whole : (text : List ℕ) (x : Reading) → length text ≤ 65536 → x ≡ addLines (linesOf text) (atLine 0) → x ≡ readOf text

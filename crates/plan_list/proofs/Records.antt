@@ -8,14 +8,14 @@ use native.Mathlib.Omega.{arith}
 use borrow.Author.Tests.{lt-ltb, le-ltb, le-leb, lt-leb, leb-false, eq-eqb, ne-eqb}
 use lib.Dec.{ltb, leb}
 use lib.ListN.{length, getD, take, drop, set, length-take, length-append}
-use lib.Seq.{take-suc-set, take-at}
+use lib.Seq.{take-suc-set, take-at, drop-at, drop-set-lt}
 use Rattle.lists.specs.Tab.{put}
 use Rattle.lists.proofs.Lowests.{None, none-zero, none-more, lowest-here, lowest-end, none-of-lowest}
 use Rattle.lists.proofs.Flags.{cond-yes, cond-no}
 use Rattle.plan_list.specs.declared.list.ListRead.{ListRead}
 use Rattle.plan_list.specs.Number.{noNumber}
 use Rattle.plan_list.specs.List.{Reading, slipped, withChamber, withCoil, firstUnsaid, chamberWith, coilSlip, coilWith}
-use Rattle.plan_list.specs.Table.{readingOf, slippedRead, Few, Step, ChamberStep, CoilStep}
+use Rattle.plan_list.specs.Table.{readingOf, slippedRead, Few, Past, Step, ChamberStep, CoilStep}
 
 -- ---- the first that is no number
 
@@ -57,13 +57,32 @@ take-put w vs at k h e =
 take-set : (w : List ℕ) (n v : ℕ) → n < length w → take (n + 1) (set w n v) ≡ take n w ++ (v ∷ [])
 take-set w n v h = rw (add-one n) (take-suc-set w n v h)
 
+drop-put : (w vs : List ℕ) (at k : ℕ) → at + length vs ≤ length w → k ≡ at + length vs → drop k (put w at vs) ≡ drop k w
+unfolding put
+drop-put w vs at k h e =
+    drop-at (take at w ++ vs) (drop (at + length vs) w) k (simp (length-append, length-take) (omega arith))
+    ∙ ap (λ (m : ℕ). drop m w) (sym e)
+
+drop-set : (w : List ℕ) (n v : ℕ) → drop (n + 1) (set w n v) ≡ drop (n + 1) w
+drop-set w n v = drop-set-lt (n + 1) w n v (omega arith)
+
+-- where no table changed
+pub past-same : (l : ListRead) (a b c d : List ℕ) → Past l a b c d a b c d
+past-same l a b c d = record { chambers = refl; chamberLines = refl; coils = refl; coilLines = refl }
+
 module _ (l : ListRead) (few : Few l) where
   -- a slip changes no table
   pub step-slipped :
       (slip word : ℕ) (a b c d : List ℕ) → Step (slipped slip word) l (slippedRead slip word l) a b c d a b c d
   unfolding readingOf
   step-slipped slip word a b c d =
-      record { same = refl; few = record { chambers = few .chambers; coils = few .coils }; line = refl }
+      record {
+        same = refl;
+        few = record { chambers = few .chambers; coils = few .coils };
+        line = refl;
+        more = (omega arith, omega arith);
+        past = past-same (slippedRead slip word l) a b c d;
+      }
 
   pub step-chamber :
       (id w h d : ℕ) (a b a′ b′ c e : List ℕ)
@@ -91,6 +110,14 @@ module _ (l : ListRead) (few : Few l) where
             (ap (take (l .chambers + 1)) pb ∙ take-set b (l .chambers) (l .line) (omega arith));
         few = record { chambers = omega arith; coils = few .coils };
         line = refl;
+        more = (omega arith, omega arith);
+        past =
+            record {
+              chambers = ap (drop ((l .chambers + 1) * 5)) pa ∙ drop-put a (id ∷ w ∷ h ∷ d ∷ 0 ∷ []) (l .chambers * 5) ((l .chambers + 1) * 5) (omega arith) (omega arith);
+              chamberLines = ap (drop (l .chambers + 1)) pb ∙ drop-set b (l .chambers) (l .line);
+              coils = refl;
+              coilLines = refl;
+            };
       }
 
   pub step-coil :
@@ -119,6 +146,14 @@ module _ (l : ListRead) (few : Few l) where
             (ap (take (l .coils + 1)) pe ∙ take-set e (l .coils) (l .line) (omega arith));
         few = record { chambers = few .chambers; coils = omega arith };
         line = refl;
+        more = (omega arith, omega arith);
+        past =
+            record {
+              chambers = refl;
+              chamberLines = refl;
+              coils = ap (drop ((l .coils + 1) * 5)) pc ∙ drop-put c (id ∷ g ∷ w ∷ h ∷ d ∷ []) (l .coils * 5) ((l .coils + 1) * 5) (omega arith) (omega arith);
+              coilLines = ap (drop (l .coils + 1)) pe ∙ drop-set e (l .coils) (l .line);
+            };
       }
 
 -- a step under another name
@@ -127,7 +162,8 @@ pub step-as :
     → Step g l l′ a b c d a′ b′ c′ d′
     → f (readingOf l a b c d) ≡ g (readingOf l a b c d)
     → Step f l l′ a b c d a′ b′ c′ d′
-step-as f g l l′ a b c d a′ b′ c′ d′ s e = record { same = s .same ∙ sym e; few = s .few; line = s .line }
+step-as f g l l′ a b c d a′ b′ c′ d′ s e =
+    record { same = s .same ∙ sym e; few = s .few; line = s .line; more = s .more; past = s .past }
 
 -- ---- a chamber and a coil with the numbers that were said
 

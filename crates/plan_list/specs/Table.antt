@@ -2,7 +2,7 @@
 use Prim.Native.Nat.{ℕ, _+_, _*_, _≤_}
 use mathlib.Core.Path.{_≡_}
 use mathlib.Core.List.{List}
-use lib.ListN.{length, take}
+use lib.ListN.{length, take, drop}
 use Rattle.plan_list.specs.declared.list.ListRead.{ListRead}
 use Rattle.plan_list.specs.List.{Reading}
 
@@ -18,6 +18,13 @@ readingOf l chambers chamberLines coils coilLines =
       slip = l .slip;
       word = l .word;
     }
+
+-- the words past the counts are as they were
+pub record Past (l : ListRead) (a b c d a′ b′ c′ d′ : List ℕ) : Type 0 where
+  pub chambers : drop (l .chambers * 5) a′ ≡ drop (l .chambers * 5) a
+  pub chamberLines : drop (l .chambers) b′ ≡ drop (l .chambers) b
+  pub coils : drop (l .coils * 5) c′ ≡ drop (l .coils * 5) c
+  pub coilLines : drop (l .coils) d′ ≡ drop (l .coils) d
 
 -- ---- What the code leans on.
 
@@ -46,6 +53,8 @@ pub record Step (f : Reading → Reading) (l l′ : ListRead) (a b c d a′ b′
   pub same : readingOf l′ a′ b′ c′ d′ ≡ f (readingOf l a b c d)
   pub few : Few l′
   pub line : l′ .line ≡ l .line
+  pub more : (l .chambers ≤ l′ .chambers) × (l .coils ≤ l′ .coils)
+  pub past : Past l′ a b c d a′ b′ c′ d′
 
 -- the same where only the chambers' tables, or only the coils', are at hand
 pub record ChamberStep (f : Reading → Reading) (l l′ : ListRead) (a b a′ b′ : List ℕ) : Type 0 where

@@ -7,7 +7,7 @@ ghost use lib.ListN.{length, getD, drop};
 ghost use Rattle.lists.specs.Tab.{put};
 ghost use Rattle.plan_list.specs.Words.{isOf, firstOf, uncommented, wordsOf, linesOf};
 ghost use Rattle.plan_list.specs.List.{firstUnsaid, chamberWith, coilSlip, coilWith, saidAt, groupSaid, addChamber, addCoil, addWords, addLines, atLine, lineAt, readOf};
-ghost use Rattle.plan_list.specs.Table.{readingOf, startAt, nextRead, slippedRead, Few, Sized, Step, ChamberStep, CoilStep};
+ghost use Rattle.plan_list.specs.Table.{readingOf, startAt, nextRead, slippedRead, Few, Sized, Past, Step, ChamberStep, CoilStep};
 use crate::number::Number;
 use crate::number::number_of;
 use crate::slip::Slip;
@@ -336,7 +336,7 @@ fn read_lines(
 ) -> ListRead
     requires { ⌜ Sized (now chambers) (now «chamber_lines») (now coils) (now «coil_lines») × (length (now text) ≤ 65536) ⌝ }
     ensures { λ r. ⌜ readingOf r (now (chambers .exit)) (now («chamber_lines» .exit)) (now (coils .exit)) (now («coil_lines» .exit)) ≡ addLines (linesOf (now (text .entry))) (atLine 0) ⌝ }
-    ensures { λ r. ⌜ Few r ⌝ }
+    ensures { λ r. ⌜ Few r × Past r (now (chambers .entry)) (now («chamber_lines» .entry)) (now (coils .entry)) (now («coil_lines» .entry)) (now (chambers .exit)) (now («chamber_lines» .exit)) (now (coils .exit)) (now («coil_lines» .exit)) ⌝ }
 {
     let mut l = ListRead::start(0);
     let mut at = 0;
@@ -389,7 +389,7 @@ fn read_text(
     coil_lines: &mut [u32],
 ) -> ListRead
     requires { ⌜ Sized (now chambers) (now «chamber_lines») (now coils) (now «coil_lines») ⌝ }
-    ensures { λ r. ⌜ (readingOf r (now (chambers .exit)) (now («chamber_lines» .exit)) (now (coils .exit)) (now («coil_lines» .exit)) ≡ readOf (now (text .entry))) × Few r ⌝ }
+    ensures { λ r. ⌜ (readingOf r (now (chambers .exit)) (now («chamber_lines» .exit)) (now (coils .exit)) (now («coil_lines» .exit)) ≡ readOf (now (text .entry))) × Few r × Past r (now (chambers .entry)) (now («chamber_lines» .entry)) (now (coils .entry)) (now («coil_lines» .entry)) (now (chambers .exit)) (now («chamber_lines» .exit)) (now (coils .exit)) (now («coil_lines» .exit)) ⌝ }
 {
     if ListRead::MOST < text.len() {
         let line = line_at(text, ListRead::MOST);
@@ -406,7 +406,7 @@ pub fn read_list(
     coils: &mut [u32; ListRead::COIL_TABLE],
     coil_lines: &mut [u32; RectToPlace::MOST],
 ) -> ListRead
-    ensures { λ r. ⌜ (readingOf r (now (chambers .exit)) (now («chamber_lines» .exit)) (now (coils .exit)) (now («coil_lines» .exit)) ≡ readOf (now (text .entry))) × Few r × Sized (now (chambers .exit)) (now («chamber_lines» .exit)) (now (coils .exit)) (now («coil_lines» .exit)) ⌝ }
+    ensures { λ r. ⌜ (readingOf r (now (chambers .exit)) (now («chamber_lines» .exit)) (now (coils .exit)) (now («coil_lines» .exit)) ≡ readOf (now (text .entry))) × Few r × Sized (now (chambers .exit)) (now («chamber_lines» .exit)) (now (coils .exit)) (now («coil_lines» .exit)) × Past r (now (chambers .entry)) (now («chamber_lines» .entry)) (now (coils .entry)) (now («coil_lines» .entry)) (now (chambers .exit)) (now («chamber_lines» .exit)) (now (coils .exit)) (now («coil_lines» .exit)) ⌝ }
 {
     read_text(text, chambers, chamber_lines, coils, coil_lines)
 }

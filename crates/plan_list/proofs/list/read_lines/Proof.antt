@@ -1,3 +1,4 @@
+use Rattle.plan_list.proofs.Lines.{going-past}
 use native.Mathlib.Omega.{arith}
 use borrow.Author.Needs.{needs}
 use Rattle.plan_list.proofs.Lines.{Going, going-start, going-slip, going-on, going-end}
@@ -8,7 +9,7 @@ use Rattle.plan_list.proofs.list.read_lines.Tie as tie
 
 abbrev Inv-loop : tie.InvT-loop
 Inv-loop text chambers₀ chamber-lines₀ coils₀ coil-lines₀ l₀ at₀ chambers chamber-lines coils coil-lines l at =
-    Going text at l chambers chamber-lines coils coil-lines
+    Going text chambers₀ chamber-lines₀ coils₀ coil-lines₀ at l chambers chamber-lines coils coil-lines
 
 abbrev μ-loop : tie.MeasureT-loop
 μ-loop text chambers₀ chamber-lines₀ coils₀ coil-lines₀ l₀ at₀ chambers chamber-lines coils coil-lines l at =
@@ -48,7 +49,7 @@ same-length-4 : tie.Need-same-length-4 Inv-loop μ-loop
 same-length-4 c = omega (arith, c .before .before .before .before .before .before .before .before .before .before .add-line .kept, c .before .before .before .before .before .before .before .before .before .before .before .before .before .before .before .before .before .before .loop .inv .sized .coilLines, c .before .before .before .before .before .before .before .before .before .before .before .before .before .before .before .before .before .before .before .before .before .before .before .before .before .pre .0 .coilLines)
 
 returns : tie.Need-returns Inv-loop μ-loop
-returns c = (going-slip _ _ _ _ _ _ _ _ _ _ _ _ (c .before .before .before .before .before .before .before .before .before .before .before .before .before .before .before .before .before .before .loop .inv) (c .before .before .before .before .before .before .before .before .before .before .before .before .before .before .before .before .before .loop-test .taken) _ (c .before .before .before .before .before .before .before .before .before .before .before .before .before .before .before .before .line-end .ensures .0) (c .before .before .before .before .before .before .before .before .before .before .add-line .ensures) (c .if1 .taken), c .before .before .before .before .before .before .before .before .before .before .add-line .ensures .few)
+returns c = let g = c .before .before .before .before .before .before .before .before .before .before .before .before .before .before .before .before .before .before .loop .inv in (going-slip _ _ _ _ _ _ _ _ _ _ _ _ _ _ _ _ g (c .before .before .before .before .before .before .before .before .before .before .before .before .before .before .before .before .before .loop-test .taken) _ (c .before .before .before .before .before .before .before .before .before .before .before .before .before .before .before .before .line-end .ensures .0) (c .before .before .before .before .before .before .before .before .before .before .add-line .ensures) (c .if1 .taken), (c .before .before .before .before .before .before .before .before .before .before .add-line .ensures .few, going-past _ _ _ _ _ _ _ _ _ _ _ _ _ _ _ _ g (c .before .before .before .before .before .before .before .before .before .before .before .before .before .before .before .before .before .loop-test .taken) _ (c .before .before .before .before .before .before .before .before .before .before .before .before .before .before .before .before .line-end .ensures .0) (c .before .before .before .before .before .before .before .before .before .before .add-line .ensures)))
 
 add-at : tie.Need-add-at Inv-loop μ-loop
 add-at c = search needs
@@ -57,7 +58,7 @@ loop-less : tie.Need-loop-less Inv-loop μ-loop
 loop-less c = omega (arith, c .before .before .before .before .before .before .before .before .before .before .before .before .before .before .before .before .before .loop-test .taken, c .before .before .before .before .before .before .before .before .before .before .before .before .before .before .before .before .line-end .ensures .0)
 
 loop-again : tie.Need-loop-again Inv-loop μ-loop
-loop-again c = going-on _ _ _ _ _ _ _ _ _ _ _ _ (c .before .before .before .before .before .before .before .before .before .before .before .before .before .before .before .before .before .before .loop .inv) (c .before .before .before .before .before .before .before .before .before .before .before .before .before .before .before .before .before .loop-test .taken) _ (c .before .before .before .before .before .before .before .before .before .before .before .before .before .before .before .before .line-end .ensures .0) (c .before .before .before .before .before .before .before .before .before .before .add-line .ensures) (c .if1 .left) (search needs)
+loop-again c = going-on _ _ _ _ _ _ _ _ _ _ _ _ _ _ _ _ (c .before .before .before .before .before .before .before .before .before .before .before .before .before .before .before .before .before .before .loop .inv) (c .before .before .before .before .before .before .before .before .before .before .before .before .before .before .before .before .before .loop-test .taken) _ (c .before .before .before .before .before .before .before .before .before .before .before .before .before .before .before .before .line-end .ensures .0) (c .before .before .before .before .before .before .before .before .before .before .add-line .ensures) (c .if1 .left) (search needs)
 
 same-length-5 : tie.Need-same-length-5 Inv-loop μ-loop
 same-length-5 c = search needs
@@ -72,7 +73,7 @@ same-length-8 : tie.Need-same-length-8 Inv-loop μ-loop
 same-length-8 c = search needs
 
 returns-2 : tie.Need-returns-2 Inv-loop μ-loop
-returns-2 c = (going-end _ _ _ _ _ _ _ (c .before .loop .inv) (c .loop-test .left), c .before .loop .inv .few)
+returns-2 c = (going-end _ _ _ _ _ _ _ _ _ _ _ (c .before .loop .inv) (c .loop-test .left), (c .before .loop .inv .few, c .before .loop .inv .past))
 
 pub read-lines-spec : {M : Type 1} → statement M
 read-lines-spec =

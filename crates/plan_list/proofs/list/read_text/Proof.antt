@@ -35,7 +35,7 @@ same-length-4 : tie.Need-same-length-4
 same-length-4 c = search needs
 
 returns-2 : tie.Need-returns-2
-returns-2 c = let a = c .before .before .before .before .before .before .before .before .before .before .before .before .before .before .before .before .before .before .before .args in (read-whole (now (a .text)) _ (c .before .before .before .before .before .before .before .before .before .before .before .before .before .if1 .left) (c .before .before .before .before .before .before .before .before .read-lines .ensures .0), c .before .before .before .before .before .before .before .before .read-lines .ensures .1)
+returns-2 c = let a = c .before .before .before .before .before .before .before .before .before .before .before .before .before .before .before .before .before .before .before .args in (read-whole (now (a .text)) _ (c .before .before .before .before .before .before .before .before .before .before .before .before .before .if1 .left) (c .before .before .before .before .before .before .before .before .read-lines .ensures .0), c .before .before .before .before .before .before .before .before .read-lines .ensures .1 .0, c .before .before .before .before .before .before .before .before .read-lines .ensures .1 .1)
 
 pub read-text-spec : {M : Type 1} → statement M
 read-text-spec =
