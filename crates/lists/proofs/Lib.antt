@@ -1,6 +1,7 @@
 pub mod Fills
 pub mod Flags
 pub mod Inserts
+pub mod Kit
 pub mod Lowests
 pub mod Picks
 pub mod Sorts

@@ -1,20 +1,8 @@
+use Rattle.lists.proofs.Kit.{needs}
 use Rattle.audit.specs.Audit.{lengthsOk}
-use borrow.Author.Needs.{needs}
-use Rattle.audit.proofs.lengths_ok.Statement.{statement}
-use Rattle.audit.proofs.lengths_ok.Tie as tie
+use Rattle.audit.proofs.lengths_ok as it
 
-boxes-in-requires : tie.Need-boxes-in-requires
-boxes-in-requires c κs = search needs
-
-boxes-in-requires-2 : tie.Need-boxes-in-requires-2
-boxes-in-requires-2 c κs = search needs
-
-add-result : tie.Need-add-result
-add-result c = search needs
-
-returns : tie.Need-returns
-unfolding lengthsOk
-returns c = cc
-
-pub lengths-ok-spec : {M : Type 1} → statement M
-lengths-ok-spec = tie.close (tie.spec boxes-in-requires boxes-in-requires-2 add-result returns)
+pub lengths-ok-spec : {M : Type 1} → it.Statement.statement M
+lengths-ok-spec =
+    it.Tie.close
+    (it.Tie.spec (λ c κs. search needs) (λ c κs. search needs) (λ c. search needs) (λ c. unfold lengthsOk in cc))

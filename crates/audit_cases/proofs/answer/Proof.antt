@@ -1,30 +1,9 @@
-use mathlib.Core.Path.{sym}
+use Rattle.lists.proofs.Kit.{sym, needs}
 use lib.Seq.{length-take-le}
-use borrow.Author.Needs.{needs}
-use Rattle.audit_cases.proofs.answer.Statement.{statement}
-use Rattle.audit_cases.proofs.answer.Tie as tie
+use Rattle.audit_cases.proofs.answer as it
 
-audit-line-requires : tie.Need-audit-line-requires
-audit-line-requires c κs = search needs
-
-array-share-prefix-line : tie.Need-array-share-prefix-line
-array-share-prefix-line c = search needs
-
-slice-aggregate-write-all : tie.Need-slice-aggregate-write-all
-slice-aggregate-write-all c = sym (length-take-le _ _ (c .before .audit-line .ensures .room))
-
-write-all-requires : tie.Need-write-all-requires
-write-all-requires c κs = search needs
-
-returns : tie.Need-returns
-returns c = search needs
-
-pub answer-spec : {M : Type 1} → statement M
+pub answer-spec : {M : Type 1} → it.Statement.statement M
 answer-spec =
-    tie.close
-    (tie.spec
-    audit-line-requires
-    array-share-prefix-line
-    slice-aggregate-write-all
-    write-all-requires
-    returns)
+    it.Tie.close
+    (it.Tie.spec (λ c κs. search needs) (λ c. search needs)
+    (λ c. sym (length-take-le _ _ (c .before .audit-line .ensures .room))) (λ c κs. search needs) (λ c. search needs))

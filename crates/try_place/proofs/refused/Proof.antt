@@ -1,12 +1,5 @@
-use borrow.Author.Needs.{needs}
-use Rattle.try_place.proofs.refused.Statement.{statement}
-use Rattle.try_place.proofs.refused.Tie as tie
+use Rattle.lists.proofs.Kit.{needs}
+use Rattle.try_place.proofs.refused as it
 
-zero-requires : tie.Need-zero-requires
-zero-requires c κs = search needs
-
-returns : tie.Need-returns
-returns c = cc
-
-pub refused-spec : {M : Type 1} → statement M
-refused-spec = tie.close (tie.spec zero-requires returns)
+pub refused-spec : {M : Type 1} → it.Statement.statement M
+refused-spec = it.Tie.close (it.Tie.spec (λ c κs. search needs) (λ c. cc))

@@ -1,4 +1,4 @@
-use mathlib.Core.Path.{_≡_, sym, ap, _∙_}
+use Rattle.lists.proofs.Kit.{_≡_, sym, ap, _∙_, needs}
 use Rattle.try_place.specs.declared.Tried.{Tried}
 use Rattle.try_place.specs.declared.packed_location.PackedLocation.{PackedLocation}
 use Rattle.try_place.specs.declared.Placement.the-variants.{Placed}
@@ -9,9 +9,7 @@ use Rattle.try_place.specs.Try.{placedOf, tryOf}
 use Rattle.try_place.proofs.Trying.{try-fit, try-numbers, reachable}
 use Rattle.try_place.proofs.Remaining.{placed-fitting, placed-is}
 use Rattle.try_place.proofs.Refusing.{refused-try, beside, placed-passed}
-use borrow.Author.Needs.{needs}
-use Rattle.try_place.proofs.try_placement.Statement.{statement}
-use Rattle.try_place.proofs.try_placement.Tie as tie
+use Rattle.try_place.proofs.try_placement as it
 
 -- a try that is placed is the fit of a section that passed the checks
 module _ (s : BinSection) (r : RectToInsert) (l : PackedLocation) (e : tryOf s r .answer ≡ Placed l) where
@@ -26,37 +24,20 @@ module _ (s : BinSection) (r : RectToInsert) (l : PackedLocation) (e : tryOf s r
       let ok = placed-passed s r l e in
       placed-fitting s r l (reachable s (ok .0)) (ap (λ (t : Tried). t .answer) (try-fit s r (ok .0) (ok .1)) ∙ e)
 
-answer-to-requires : tie.Need-answer-to-requires
-answer-to-requires c κs = search needs
-
-enum-told : tie.Need-enum-told
-enum-told c = search needs
-
-refused-requires : tie.Need-refused-requires
-refused-requires c κs = search needs
-
-returns : tie.Need-returns
+returns : it.Tie.Need-returns
 returns c =
     let e = c .refused .ensures ∙ refused-try _ _ _ (c .before .before .answer-to .ensures) (c .before .match .keys2) in
     (e, try-numbers _ _ _ e)
 
-chosen-three-requires : tie.Need-chosen-three-requires
-chosen-three-requires c κs = fitting _ _ _ (sym (c .before .before .answer-to .ensures) ∙ c .enum-told .given .1)
-
-returns-2 : tie.Need-returns-2
+returns-2 : it.Tie.Need-returns-2
 returns-2 c =
     let a = c .before .before .before in
     let p = fits _ _ _ (sym (a .answer-to .ensures) ∙ c .before .enum-told .given .1) in
     let e = beside _ _ _ (a .answer-to .ensures) (c .chosen-three .ensures ∙ ap (λ (t : Tried). t .sections) (sym p)) in
     (e, try-numbers _ _ _ e)
 
-pub try-placement-spec : {M : Type 1} → statement M
+pub try-placement-spec : {M : Type 1} → it.Statement.statement M
 try-placement-spec =
-    tie.close
-    (tie.spec
-    answer-to-requires
-    enum-told
-    refused-requires
-    returns
-    chosen-three-requires
-    returns-2)
+    it.Tie.close
+    (it.Tie.spec (λ c κs. search needs) (λ c. search needs) (λ c κs. search needs) returns
+    (λ c κs. fitting _ _ _ (sym (c .before .before .answer-to .ensures) ∙ c .enum-told .given .1)) returns-2)

@@ -1,61 +1,22 @@
-use Prim.Native.Nat.{_-_}
-use native.Mathlib.Omega.{arith}
-use borrow.Author.Needs.{needs}
+use Rattle.lists.proofs.Kit.{_-_, arith, needs}
 use Rattle.lists.proofs.Lowests.{None, none-zero, none-more}
 use Rattle.audit.specs.Audit.{auditBoxes, sharesEarlier}
 use Rattle.audit.proofs.TwoLists.{found, found-none}
-use Rattle.audit.proofs.checks.first_shared.Statement.{statement}
-use Rattle.audit.proofs.checks.first_shared.Tie as tie
+use Rattle.audit.proofs.checks.first_shared as it
 
-abbrev Inv-loop : tie.InvT-loop
+abbrev Inv-loop : it.Tie.InvT-loop
 Inv-loop placed free n j₀ j = None j (sharesEarlier (auditBoxes placed free))
 
-abbrev μ-loop : tie.MeasureT-loop
+abbrev μ-loop : it.Tie.MeasureT-loop
 μ-loop placed free n j₀ j = n - j
 
-boxes-in-requires : tie.Need-boxes-in-requires Inv-loop μ-loop
-boxes-in-requires c κs = search needs
-
-boxes-in-requires-2 : tie.Need-boxes-in-requires-2 Inv-loop μ-loop
-boxes-in-requires-2 c κs = search needs
-
-add-n : tie.Need-add-n Inv-loop μ-loop
-add-n c = omega arith
-
-loop-holds : tie.Need-loop-holds Inv-loop μ-loop
-loop-holds c = none-zero _
-
-shares-earlier-requires : tie.Need-shares-earlier-requires Inv-loop μ-loop
-shares-earlier-requires c κs = omega arith
-
-returns : tie.Need-returns Inv-loop μ-loop
+returns : it.Tie.Need-returns Inv-loop μ-loop
 returns c = let l = c .before .before .before in found _ _ _ _ _ (omega arith) (l .loop .inv) (c .before .before .loop-test .taken) (cc)
 
-add-j : tie.Need-add-j Inv-loop μ-loop
-add-j c = omega arith
-
-loop-less : tie.Need-loop-less Inv-loop μ-loop
-loop-less c = omega arith
-
-loop-again : tie.Need-loop-again Inv-loop μ-loop
-loop-again c = none-more _ _ (c .before .before .before .loop .inv) (cc)
-
-returns-2 : tie.Need-returns-2 Inv-loop μ-loop
-returns-2 c = found-none _ _ _ _ _ (omega arith) (c .before .loop .inv) (c .loop-test .left)
-
-pub first-shared-spec : {M : Type 1} → statement M
+pub first-shared-spec : {M : Type 1} → it.Statement.statement M
 first-shared-spec =
-    tie.close
-    (tie.spec
-    Inv-loop
-    μ-loop
-    boxes-in-requires
-    boxes-in-requires-2
-    add-n
-    loop-holds
-    shares-earlier-requires
-    returns
-    add-j
-    loop-less
-    loop-again
-    returns-2)
+    it.Tie.close
+    (it.Tie.spec Inv-loop μ-loop (λ c κs. search needs) (λ c κs. search needs) (λ c. omega arith) (λ c. none-zero _)
+    (λ c κs. omega arith) returns (λ c. omega arith) (λ c. omega arith)
+    (λ c. none-more _ _ (c .before .before .before .loop .inv) (cc))
+    (λ c. found-none _ _ _ _ _ (omega arith) (c .before .loop .inv) (c .loop-test .left)))

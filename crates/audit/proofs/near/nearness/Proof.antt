@@ -1,25 +1,11 @@
-use native.Mathlib.Omega.{arith}
+use Rattle.lists.proofs.Kit.{arith, needs}
 use Rattle.audit.proofs.Nearing.{meet-near}
-use borrow.Author.Needs.{needs}
-use Rattle.audit.proofs.near.nearness.Statement.{statement}
-use Rattle.audit.proofs.near.nearness.Tie as tie
+use Rattle.audit.proofs.near.nearness as it
 
-add-end1 : tie.Need-add-end1
-add-end1 c = search needs
-
-add-end2 : tie.Need-add-end2
-add-end2 c = search needs
-
-wrapping-sub-u64-requires : tie.Need-wrapping-sub-u64-requires
-wrapping-sub-u64-requires c κs = search needs
-
-wrapping-sub-u64-requires-2 : tie.Need-wrapping-sub-u64-requires-2
-wrapping-sub-u64-requires-2 c κs = search needs
-
-returns : tie.Need-returns
+returns : it.Tie.Need-returns
 returns c = meet-near _ _ _ _ _ _ (omega arith) (omega arith) (omega arith) (omega arith) (omega arith) (omega arith) (c .before .wrapping-sub-u64 .ensures) (c .wrapping-sub-u642 .ensures)
 
-pub nearness-spec : {M : Type 1} → statement M
+pub nearness-spec : {M : Type 1} → it.Statement.statement M
 nearness-spec =
-    tie.close
-    (tie.spec add-end1 add-end2 wrapping-sub-u64-requires wrapping-sub-u64-requires-2 returns)
+    it.Tie.close
+    (it.Tie.spec (λ c. search needs) (λ c. search needs) (λ c κs. search needs) (λ c κs. search needs) returns)

@@ -1,11 +1,6 @@
-use mathlib.Core.Path.{refl}
+use Rattle.lists.proofs.Kit.{refl}
 use Rattle.bin_section.specs.Sides.{sideOk}
-use Rattle.bin_section.proofs.width_height_depth.side_ok.Statement.{statement}
-use Rattle.bin_section.proofs.width_height_depth.side_ok.Tie as tie
+use Rattle.bin_section.proofs.width_height_depth.side_ok as it
 
-returns : tie.Need-returns
-unfolding sideOk
-returns c = refl
-
-pub side-ok-spec : {M : Type 1} → statement M
-side-ok-spec = tie.close (tie.spec returns)
+pub side-ok-spec : {M : Type 1} → it.Statement.statement M
+side-ok-spec = it.Tie.close (it.Tie.spec (λ c. unfold sideOk in refl))

@@ -1,11 +1,6 @@
-use mathlib.Core.Path.{refl}
+use Rattle.lists.proofs.Kit.{refl}
 use Rattle.cafunderi.specs.Try.{tryLengthsOk}
-use Rattle.cafunderi.proofs.try_words.lengths_ok.Statement.{statement}
-use Rattle.cafunderi.proofs.try_words.lengths_ok.Tie as tie
+use Rattle.cafunderi.proofs.try_words.lengths_ok as it
 
-returns : tie.Need-returns
-unfolding tryLengthsOk
-returns c = refl
-
-pub lengths-ok-spec : {M : Type 1} → statement M
-lengths-ok-spec = tie.close (tie.spec returns)
+pub lengths-ok-spec : {M : Type 1} → it.Statement.statement M
+lengths-ok-spec = it.Tie.close (it.Tie.spec (λ c. unfold tryLengthsOk in refl))

@@ -1,57 +1,32 @@
-use borrow.Author.Needs.{needs}
-use Prim.Native.Nat.{_-_, _≤_}
-use mathlib.Core.Path.{sym, _∙_}
+use Rattle.lists.proofs.Kit.{needs, _-_, _≤_, sym, _∙_}
 use Rattle.grouped_rects_to_place.specs.Rect.{rectAt}
 use Rattle.grouped_rects_to_place.specs.Checks.{repeatedId}
 use Rattle.lists.proofs.Lowests.{None, none-zero, none-more, lowest-here, lowest-end}
-use Rattle.grouped_rects_to_place.proofs.checks.first_repeated.Statement.{statement}
-use Rattle.grouped_rects_to_place.proofs.checks.first_repeated.Tie as tie
+use Rattle.grouped_rects_to_place.proofs.checks.first_repeated as it
 
-abbrev Inv-loop : tie.InvT-loop
+abbrev Inv-loop : it.Tie.InvT-loop
 Inv-loop rects n i₀ i = (i ≤ n) × None i (repeatedId (rectAt rects))
 
-abbrev μ-loop : tie.MeasureT-loop
+abbrev μ-loop : it.Tie.MeasureT-loop
 μ-loop rects n i₀ i = n - i
 
-loop-holds : tie.Need-loop-holds Inv-loop μ-loop
-loop-holds c = (search needs, none-zero _)
-
-repeated-requires : tie.Need-repeated-requires Inv-loop μ-loop
-repeated-requires c κs = search needs
-
-returns : tie.Need-returns Inv-loop μ-loop
+returns : it.Tie.Need-returns Inv-loop μ-loop
 returns c =
     let l = c .before .before .before .loop in (
       sym (lowest-here _ (l .i) _ (l .inv .1) (c .before .before .loop-test .taken) (sym (c .before .repeated .ensures) ∙ c .if1 .taken)),
       search needs,
     )
 
-add-i : tie.Need-add-i Inv-loop μ-loop
-add-i c = search needs
-
-loop-less : tie.Need-loop-less Inv-loop μ-loop
-loop-less c = search needs
-
-loop-again : tie.Need-loop-again Inv-loop μ-loop
+loop-again : it.Tie.Need-loop-again Inv-loop μ-loop
 loop-again c =
     let l = c .before .before .before .loop in (
       search needs,
       none-more (l .i) _ (l .inv .1) (sym (c .before .repeated .ensures) ∙ c .if1 .left),
     )
 
-returns-2 : tie.Need-returns-2 Inv-loop μ-loop
-returns-2 c = let l = c .before .loop in (sym (lowest-end _ (l .i) _ (l .inv .1) (c .loop-test .left)), search needs)
-
-pub first-repeated-spec : {M : Type 1} → statement M
+pub first-repeated-spec : {M : Type 1} → it.Statement.statement M
 first-repeated-spec =
-    tie.close
-    (tie.spec
-    Inv-loop
-    μ-loop
-    loop-holds
-    repeated-requires
-    returns
-    add-i
-    loop-less
-    loop-again
-    returns-2)
+    it.Tie.close
+    (it.Tie.spec Inv-loop μ-loop (λ c. (search needs, none-zero _)) (λ c κs. search needs) returns (λ c. search needs)
+    (λ c. search needs) loop-again
+    (λ c. let l = c .before .loop in (sym (lowest-end _ (l .i) _ (l .inv .1) (c .loop-test .left)), search needs)))

@@ -1,30 +1,18 @@
+use Rattle.lists.proofs.Kit.{needs, _-_, _≤_, sym}
 use Rattle.grouped_rects_to_place.proofs.Checking.{ids-same, ids-differ}
-use borrow.Author.Needs.{needs}
-use Prim.Native.Nat.{_-_, _≤_}
-use mathlib.Core.Path.{sym}
 use lib.Dec.{eqb}
 use Rattle.grouped_rects_to_place.specs.Rect.{rectAt}
 use Rattle.grouped_rects_to_place.specs.Checks.{repeatedId}
 use Rattle.lists.proofs.Lowests.{None, none-zero, none-more, none-less, none-any, any-here}
-use Rattle.grouped_rects_to_place.proofs.checks.repeated.Statement.{statement}
-use Rattle.grouped_rects_to_place.proofs.checks.repeated.Tie as tie
+use Rattle.grouped_rects_to_place.proofs.checks.repeated as it
 
-abbrev Inv-loop : tie.InvT-loop
+abbrev Inv-loop : it.Tie.InvT-loop
 Inv-loop rects i later j₀ j = (j ≤ i) × None j (λ k. eqb (rectAt rects k .id) (rectAt rects i .id))
 
-abbrev μ-loop : tie.MeasureT-loop
+abbrev μ-loop : it.Tie.MeasureT-loop
 μ-loop rects i later j₀ j = i - j
 
-read-requires : tie.Need-read-requires Inv-loop μ-loop
-read-requires c κs = search needs
-
-loop-holds : tie.Need-loop-holds Inv-loop μ-loop
-loop-holds c = (search needs, none-zero _)
-
-read-requires-2 : tie.Need-read-requires-2 Inv-loop μ-loop
-read-requires-2 c κs = search needs
-
-returns : tie.Need-returns Inv-loop μ-loop
+returns : it.Tie.Need-returns Inv-loop μ-loop
 unfolding repeatedId
 returns c =
     let l = c .before .before .before .before .before .loop in
@@ -32,13 +20,7 @@ returns c =
     (ids-same _ _ _ _ _ (c .before .before .before .read2 .ensures) (c .before .before .before .before .before .before .read .ensures)
     (c .if1 .taken)))
 
-add-j : tie.Need-add-j Inv-loop μ-loop
-add-j c = search needs
-
-loop-less : tie.Need-loop-less Inv-loop μ-loop
-loop-less c = search needs
-
-loop-again : tie.Need-loop-again Inv-loop μ-loop
+loop-again : it.Tie.Need-loop-again Inv-loop μ-loop
 loop-again c =
     let l = c .before .before .before .before .before .loop in (
       search needs,
@@ -47,21 +29,12 @@ loop-again c =
           (c .if1 .left)),
     )
 
-returns-2 : tie.Need-returns-2 Inv-loop μ-loop
+returns-2 : it.Tie.Need-returns-2 Inv-loop μ-loop
 unfolding repeatedId
 returns-2 c = let l = c .before .loop in sym (none-any _ _ (none-less _ (l .j) _ (l .inv .1) (c .loop-test .left)))
 
-pub repeated-spec : {M : Type 1} → statement M
+pub repeated-spec : {M : Type 1} → it.Statement.statement M
 repeated-spec =
-    tie.close
-    (tie.spec
-    Inv-loop
-    μ-loop
-    read-requires
-    loop-holds
-    read-requires-2
-    returns
-    add-j
-    loop-less
-    loop-again
-    returns-2)
+    it.Tie.close
+    (it.Tie.spec Inv-loop μ-loop (λ c κs. search needs) (λ c. (search needs, none-zero _)) (λ c κs. search needs)
+    returns (λ c. search needs) (λ c. search needs) loop-again returns-2)

@@ -1,29 +1,21 @@
 -- The words stay as they are until a section takes the rectangle.
-use borrow.Author.Needs.{needs}
-use mathlib.Core.Path.{_≡_, refl, sym, ap, _∙_}
-use native.Mathlib.Omega.{arith}
+use Rattle.lists.proofs.Kit.{needs, _≡_, refl, sym, ap, _∙_, arith, _-_, length, List, ℕ, now}
 use Rattle.placing.proofs.Finding.{Tried, tried-none, tried-more, tried-placed, tried-all}
 use Rattle.placing.proofs.Placed.{small-of, placed-here, placed-nowhere}
-use Prim.Native.Nat.{_-_}
-use lib.ListN.{length}
-use mathlib.Core.List.{List}
-use Prim.Native.Nat.{ℕ}
-use denote.Ref.{now}
 use Rattle.bin_section.specs.declared.section.BinSection.{BinSection}
 use Rattle.bin_section.specs.Section.{sectionAt}
 use Rattle.try_place.specs.Try.{fitOf}
-use Rattle.placing.proofs.place.place_rect.Statement.{statement}
-use Rattle.placing.proofs.place.place_rect.Tie as tie
+use Rattle.placing.proofs.place.place_rect as it
 
-abbrev Inv-loop : tie.InvT-loop
+abbrev Inv-loop : it.Tie.InvT-loop
 Inv-loop words₀ count incoming i₀ words i = (words ≡ words₀) × Tried count incoming words₀ i
 
-abbrev μ-loop : tie.MeasureT-loop
+abbrev μ-loop : it.Tie.MeasureT-loop
 μ-loop words₀ count incoming i₀ words i = i
 
 -- what a try of the section at i found, in the words that came in
 found :
-    (c : tie.After-try-place Inv-loop μ-loop)
+    (c : it.Tie.After-try-place Inv-loop μ-loop)
     → c .try-place .result
     ≡ fitOf (sectionAt (now (c .before .before .before .before .before .before .args .words)) (c .before .before .before .before .loop .i - 1)) (c .before .before .before .before .before .before .args .incoming)
 found c =
@@ -32,57 +24,27 @@ found c =
     ∙ ap (λ (s : BinSection). fitOf s (l .before .before .args .incoming))
     (c .before .read .ensures ∙ ap (λ (w : List ℕ). sectionAt w (l .loop .i - 1)) (l .loop .inv .0))
 
-loop-holds : tie.Need-loop-holds Inv-loop μ-loop
-loop-holds c = (refl, tried-none _ _ _)
-
-sub-i : tie.Need-sub-i Inv-loop μ-loop
-sub-i c = search needs
-
-read-requires : tie.Need-read-requires Inv-loop μ-loop
+read-requires : it.Tie.Need-read-requires Inv-loop μ-loop
 read-requires c κs = let l = c .before .before in omega (arith, ap length (l .loop .inv .0), l .before .before .pre .0, l .loop .inv .1 .most)
 
-try-place-requires : tie.Need-try-place-requires Inv-loop μ-loop
+try-place-requires : it.Tie.Need-try-place-requires Inv-loop μ-loop
 try-place-requires c κs = let l = c .before .before .before in rw (c .read .ensures, l .loop .inv .0) (l .before .before .pre .1 .at (l .loop .i - 1) (omega (arith, l .loop .inv .1 .most)))
 
-enum-known-answer : tie.Need-enum-known-answer Inv-loop μ-loop
-enum-known-answer c = search needs
-
-loop-less : tie.Need-loop-less Inv-loop μ-loop
-loop-less c = search needs
-
-loop-again : tie.Need-loop-again Inv-loop μ-loop
+loop-again : it.Tie.Need-loop-again Inv-loop μ-loop
 loop-again c = let l = c .before .before .before .before .before in (l .loop .inv .0, tried-more _ _ _ _ _ (l .loop .inv .1) (c .before .before .before .before .loop-test .taken) (found (c .before)) (c .match .keys2))
 
-replace-requires : tie.Need-replace-requires Inv-loop μ-loop
+replace-requires : it.Tie.Need-replace-requires Inv-loop μ-loop
 replace-requires c κs = let a = c .before .before .before in let t = a .before .before in let l = t .before .before .before .before in let st = l .before .before in (omega (arith, ap length (l .loop .inv .0), st .pre .0), omega (arith, l .loop .inv .1 .most), small-of _ _ _ _ (st .pre .1 .at (l .loop .i - 1) (omega (arith, l .loop .inv .1 .most))) (found t) (a .answer .given .1))
 
-same-length : tie.Need-same-length Inv-loop μ-loop
-same-length c = search needs
-
-returns : tie.Need-returns Inv-loop μ-loop
+returns : it.Tie.Need-returns Inv-loop μ-loop
 returns c = let r = c .before .before in let a = r .before .before .before .before in let t = a .before .before in let l = t .before .before .before .before in let st = l .before .before in placed-here _ _ _ (st .pre .1) _ (l .loop .inv .1) _ _ _ _ (t .before .before .before .loop-test .taken) (found t) (a .answer .given .1) (rw (l .loop .inv .0) at (r .replace .ensures))
 
-same-length-2 : tie.Need-same-length-2 Inv-loop μ-loop
-same-length-2 c = search needs
-
-returns-2 : tie.Need-returns-2 Inv-loop μ-loop
+returns-2 : it.Tie.Need-returns-2 Inv-loop μ-loop
 returns-2 c = let l = c .before in rw (l .loop .inv .0) (placed-nowhere _ _ _ (l .before .before .pre .1) _ (l .loop .inv .1) (c .loop-test .left))
 
-pub place-rect-spec : {M : Type 1} → statement M
+pub place-rect-spec : {M : Type 1} → it.Statement.statement M
 place-rect-spec =
-    tie.close
-    (tie.spec
-    Inv-loop
-    μ-loop
-    loop-holds
-    sub-i
-    read-requires
-    try-place-requires
-    enum-known-answer
-    loop-less
-    loop-again
-    replace-requires
-    same-length
-    returns
-    same-length-2
-    returns-2)
+    it.Tie.close
+    (it.Tie.spec Inv-loop μ-loop (λ c. (refl, tried-none _ _ _)) (λ c. search needs) read-requires try-place-requires
+    (λ c. search needs) (λ c. search needs) loop-again replace-requires (λ c. search needs) returns
+    (λ c. search needs) returns-2)

@@ -1,50 +1,17 @@
-use borrow.Author.Needs.{needs}
+use Rattle.lists.proofs.Kit.{needs, _-_, _≤_}
 use Rattle.plan_list.proofs.Lines.{LinesTo, lines-none, lines-more, lines-all}
-use Prim.Native.Nat.{_-_, _≤_}
-use Rattle.plan_list.proofs.list.line_at.Statement.{statement}
-use Rattle.plan_list.proofs.list.line_at.Tie as tie
+use Rattle.plan_list.proofs.list.line_at as it
 
-abbrev Inv-loop : tie.InvT-loop
+abbrev Inv-loop : it.Tie.InvT-loop
 Inv-loop text n line₀ i₀ line i = LinesTo text line i × (i ≤ n)
 
-abbrev μ-loop : tie.MeasureT-loop
+abbrev μ-loop : it.Tie.MeasureT-loop
 μ-loop text n line₀ i₀ line i = n - i
 
-loop-holds : tie.Need-loop-holds Inv-loop μ-loop
-loop-holds c = (lines-none _, search needs)
-
-shared-slice-read-newlines : tie.Need-shared-slice-read-newlines Inv-loop μ-loop
-shared-slice-read-newlines c = search needs
-
-newlines-requires : tie.Need-newlines-requires Inv-loop μ-loop
-newlines-requires c κs = search needs
-
-add-line : tie.Need-add-line Inv-loop μ-loop
-add-line c = search needs
-
-add-i : tie.Need-add-i Inv-loop μ-loop
-add-i c = search needs
-
-loop-less : tie.Need-loop-less Inv-loop μ-loop
-loop-less c = search needs
-
-loop-again : tie.Need-loop-again Inv-loop μ-loop
-loop-again c = (lines-more _ _ _ _ (c .before .before .before .loop .inv .0) (c .newlines .ensures), search needs)
-
-returns : tie.Need-returns Inv-loop μ-loop
-returns c = lines-all _ _ _ _ (c .before .loop .inv .0) (search needs)
-
-pub line-at-spec : {M : Type 1} → statement M
+pub line-at-spec : {M : Type 1} → it.Statement.statement M
 line-at-spec =
-    tie.close
-    (tie.spec
-    Inv-loop
-    μ-loop
-    loop-holds
-    shared-slice-read-newlines
-    newlines-requires
-    add-line
-    add-i
-    loop-less
-    loop-again
-    returns)
+    it.Tie.close
+    (it.Tie.spec Inv-loop μ-loop (λ c. (lines-none _, search needs)) (λ c. search needs) (λ c κs. search needs)
+    (λ c. search needs) (λ c. search needs) (λ c. search needs)
+    (λ c. (lines-more _ _ _ _ (c .before .before .before .loop .inv .0) (c .newlines .ensures), search needs))
+    (λ c. lines-all _ _ _ _ (c .before .loop .inv .0) (search needs)))

@@ -1,46 +1,20 @@
-use borrow.Author.Needs.{needs}
+use Rattle.lists.proofs.Kit.{needs, _-_, _≤_}
 use Rattle.plan_list.proofs.Reaching.{Reached, reached-start, reached-next, reached-room, word-here}
-use Prim.Native.Nat.{_-_, _≤_}
-use Rattle.plan_list.proofs.words.start_of.Statement.{statement}
-use Rattle.plan_list.proofs.words.start_of.Tie as tie
+use Rattle.plan_list.proofs.words.start_of as it
 
-abbrev Inv-loop : tie.InvT-loop
+abbrev Inv-loop : it.Tie.InvT-loop
 Inv-loop line k at₀ i₀ at i = Reached line i at × (i ≤ k)
 
-abbrev μ-loop : tie.MeasureT-loop
+abbrev μ-loop : it.Tie.MeasureT-loop
 μ-loop line k at₀ i₀ at i = k - i
 
-first-of-requires : tie.Need-first-of-requires Inv-loop μ-loop
-first-of-requires c κs = search needs
-
-loop-holds : tie.Need-loop-holds Inv-loop μ-loop
-loop-holds c = (reached-start _ _ (c .first-of .ensures .0) (c .first-of .ensures .1), search needs)
-
-next-start-requires : tie.Need-next-start-requires Inv-loop μ-loop
-next-start-requires c κs = search needs
-
-add-i : tie.Need-add-i Inv-loop μ-loop
-add-i c = search needs
-
-loop-less : tie.Need-loop-less Inv-loop μ-loop
-loop-less c = search needs
-
-loop-again : tie.Need-loop-again Inv-loop μ-loop
+loop-again : it.Tie.Need-loop-again Inv-loop μ-loop
 loop-again c = let s = c .before .before .loop .inv .0 in (reached-next _ _ _ s _ (reached-room _ _ _ s (search needs)) (c .next-start .ensures .0) (c .next-start .ensures .1), search needs)
 
-returns : tie.Need-returns Inv-loop μ-loop
-returns c = let s = c .before .loop .inv in word-here _ _ _ (s .0) _ (search needs) (search needs)
-
-pub start-of-spec : {M : Type 1} → statement M
+pub start-of-spec : {M : Type 1} → it.Statement.statement M
 start-of-spec =
-    tie.close
-    (tie.spec
-    Inv-loop
-    μ-loop
-    first-of-requires
-    loop-holds
-    next-start-requires
-    add-i
-    loop-less
-    loop-again
-    returns)
+    it.Tie.close
+    (it.Tie.spec Inv-loop μ-loop (λ c κs. search needs)
+    (λ c. (reached-start _ _ (c .first-of .ensures .0) (c .first-of .ensures .1), search needs))
+    (λ c κs. search needs) (λ c. search needs) (λ c. search needs) loop-again
+    (λ c. let s = c .before .loop .inv in word-here _ _ _ (s .0) _ (search needs) (search needs)))

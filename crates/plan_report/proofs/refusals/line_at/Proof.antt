@@ -1,20 +1,9 @@
+use Rattle.lists.proofs.Kit.{sym, needs}
 use lib.ListN.{List·getD-eq-default}
-use mathlib.Core.Path.{sym}
-use borrow.Author.Needs.{needs}
-use Rattle.plan_report.proofs.refusals.line_at.Statement.{statement}
-use Rattle.plan_report.proofs.refusals.line_at.Tie as tie
+use Rattle.plan_report.proofs.refusals.line_at as it
 
-mul-result : tie.Need-mul-result
-mul-result c = search needs
-
-shared-slice-read-result : tie.Need-shared-slice-read-result
-shared-slice-read-result c = search needs
-
-returns : tie.Need-returns
-returns c = search needs
-
-returns-2 : tie.Need-returns-2
-returns-2 c = sym (List·getD-eq-default (c .before .args .lines .now) 0 (c .if1 .left))
-
-pub line-at-spec : {M : Type 1} → statement M
-line-at-spec = tie.close (tie.spec mul-result shared-slice-read-result returns returns-2)
+pub line-at-spec : {M : Type 1} → it.Statement.statement M
+line-at-spec =
+    it.Tie.close
+    (it.Tie.spec (λ c. search needs) (λ c. search needs) (λ c. search needs)
+    (λ c. sym (List·getD-eq-default (c .before .args .lines .now) 0 (c .if1 .left))))

@@ -1,49 +1,14 @@
-use borrow.Author.Needs.{needs}
-use Prim.Native.Nat.{_-_, _*_, _≤_}
-use Rattle.replay.proofs.tables.count_stray.Statement.{statement}
-use Rattle.replay.proofs.tables.count_stray.Tie as tie
+use Rattle.lists.proofs.Kit.{needs, _-_, _*_, _≤_}
+use Rattle.replay.proofs.tables.count_stray as it
 
-abbrev Inv-loop : tie.InvT-loop
+abbrev Inv-loop : it.Tie.InvT-loop
 Inv-loop chambers store c wanted stray₀ k₀ stray k = (k ≤ c) × (stray ≤ k * 768)
 
-abbrev μ-loop : tie.MeasureT-loop
+abbrev μ-loop : it.Tie.MeasureT-loop
 μ-loop chambers store c wanted stray₀ k₀ stray k = c - k
 
-loop-holds : tie.Need-loop-holds Inv-loop μ-loop
-loop-holds c = search needs
-
-count-stray-in-requires : tie.Need-count-stray-in-requires Inv-loop μ-loop
-count-stray-in-requires c κs = search needs
-
-add-stray : tie.Need-add-stray Inv-loop μ-loop
-add-stray c = search needs
-
-add-k : tie.Need-add-k Inv-loop μ-loop
-add-k c = search needs
-
-loop-less : tie.Need-loop-less Inv-loop μ-loop
-loop-less c = search needs
-
-loop-again : tie.Need-loop-again Inv-loop μ-loop
-loop-again c = search needs
-
-cast-result : tie.Need-cast-result Inv-loop μ-loop
-cast-result c = search needs
-
-returns : tie.Need-returns Inv-loop μ-loop
-returns c = search needs
-
-pub count-stray-spec : {M : Type 1} → statement M
+pub count-stray-spec : {M : Type 1} → it.Statement.statement M
 count-stray-spec =
-    tie.close
-    (tie.spec
-    Inv-loop
-    μ-loop
-    loop-holds
-    count-stray-in-requires
-    add-stray
-    add-k
-    loop-less
-    loop-again
-    cast-result
-    returns)
+    it.Tie.close
+    (it.Tie.spec Inv-loop μ-loop (λ c. search needs) (λ c κs. search needs) (λ c. search needs) (λ c. search needs)
+    (λ c. search needs) (λ c. search needs) (λ c. search needs) (λ c. search needs))

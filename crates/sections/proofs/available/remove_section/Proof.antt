@@ -1,9 +1,6 @@
-use native.Mathlib.Omega.{arith}
-use native.Mathlib.Numerals.{add-one}
-use Prim.Native.Nat.{ℕ, suc, _+_, _-_, _*_, _≤_, _<_}
-use mathlib.Core.Path.{_≡_, sym, ap, _∙_}
-use mathlib.Core.List.{List, [], _∷_, _++_}
-use lib.ListN.{length, getD, set, take, drop}
+use Rattle.lists.proofs.Kit.{arith, add-one, ℕ, _+_, _-_, _*_, _≤_, _<_, _≡_, sym, ap, _∙_, List, [], _∷_, length, getD, set, take, drop, needs}
+use Prim.Native.Nat.{suc}
+use mathlib.Core.List.{_++_}
 use lib.Seq.{take-all, drop-length}
 use Rattle.lists.specs.Tab.{put, removeAt}
 use Rattle.lists.proofs.Tabs.{shifted, shift-none, shift-more, shift-last}
@@ -13,9 +10,7 @@ use Rattle.sections.specs.Sections.{sections}
 use Rattle.sections.specs.Changes.{Removed}
 use Rattle.sections.proofs.Reading.{sections-put, getD-sections, length-sections, sectionAt-put-other}
 use Rattle.sections.proofs.Moves.{removed}
-use borrow.Author.Needs.{needs}
-use Rattle.sections.proofs.available.remove_section.Statement.{statement}
-use Rattle.sections.proofs.available.remove_section.Tie as tie
+use Rattle.sections.proofs.available.remove_section as it
 
 -- the words w, k sections into the move that began at w₀ with the section i
 record Moving (w₀ w : List ℕ) (count i last k : ℕ) : Type 0 where
@@ -25,10 +20,10 @@ record Moving (w₀ w : List ℕ) (count i last k : ℕ) : Type 0 where
   model : sections w count ≡ shifted i k (sections w₀ count)
   past : (j : ℕ) → count ≤ j → sectionAt w j ≡ sectionAt w₀ j
 
-abbrev Inv-loop : tie.InvT-loop
+abbrev Inv-loop : it.Tie.InvT-loop
 Inv-loop words₀ count i last k₀ words k = Moving words₀ words count i last k
 
-abbrev μ-loop : tie.MeasureT-loop
+abbrev μ-loop : it.Tie.MeasureT-loop
 μ-loop words₀ count i last k₀ words k = last - k
 
 -- a turn: the section after k is read, and written at k
@@ -55,28 +50,7 @@ finish w₀ w w′ count i k s write zeros model past last long low =
     removed w₀ w′ count i (cc (sections-put w count k s (omega arith) long))
     (stays w₀ w w′ count (count - 1) s write past long (omega arith)) low
 
-sub-last : tie.Need-sub-last Inv-loop μ-loop
-sub-last c = search needs
-
-loop-holds : tie.Need-loop-holds Inv-loop μ-loop
-loop-holds c = search (needs, shift-none)
-
-add-read : tie.Need-add-read Inv-loop μ-loop
-add-read c = search needs
-
-read-requires : tie.Need-read-requires Inv-loop μ-loop
-read-requires c κs = search needs
-
-write-requires : tie.Need-write-requires Inv-loop μ-loop
-write-requires c κs = search needs
-
-add-k : tie.Need-add-k Inv-loop μ-loop
-add-k c = search needs
-
-loop-less : tie.Need-loop-less Inv-loop μ-loop
-loop-less c = search needs
-
-loop-again : tie.Need-loop-again Inv-loop μ-loop
+loop-again : it.Tie.Need-loop-again Inv-loop μ-loop
 loop-again c =
     let wrote = c .before .before in
     let read = wrote .before .before in
@@ -89,37 +63,16 @@ loop-again c =
       past = stays _ _ _ _ _ _ (wrote .write .ensures) (was .past) (search needs) (search needs);
     }
 
-zero-requires : tie.Need-zero-requires Inv-loop μ-loop
-zero-requires c κs = search needs
-
-write-requires-2 : tie.Need-write-requires-2 Inv-loop μ-loop
-write-requires-2 c κs = search needs
-
-same-length : tie.Need-same-length Inv-loop μ-loop
-same-length c = search needs
-
-returns : tie.Need-returns Inv-loop μ-loop
+returns : it.Tie.Need-returns Inv-loop μ-loop
 returns c =
     let wrote = c .before .before in
     let zero = wrote .before .before in
     let at = zero .before .before .loop in
     finish _ _ _ _ _ (at .k) _ (wrote .write2 .ensures) (zero .zero .ensures) (at .inv .model) (at .inv .past) (search needs) (search needs) (search needs)
 
-pub remove-section-spec : {M : Type 1} → statement M
+pub remove-section-spec : {M : Type 1} → it.Statement.statement M
 remove-section-spec =
-    tie.close
-    (tie.spec
-    Inv-loop
-    μ-loop
-    sub-last
-    loop-holds
-    add-read
-    read-requires
-    write-requires
-    add-k
-    loop-less
-    loop-again
-    zero-requires
-    write-requires-2
-    same-length
-    returns)
+    it.Tie.close
+    (it.Tie.spec Inv-loop μ-loop (λ c. search needs) (λ c. search (needs, shift-none)) (λ c. search needs)
+    (λ c κs. search needs) (λ c κs. search needs) (λ c. search needs) (λ c. search needs) loop-again
+    (λ c κs. search needs) (λ c κs. search needs) (λ c. search needs) returns)

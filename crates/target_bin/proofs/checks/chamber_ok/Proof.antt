@@ -1,17 +1,8 @@
+use Rattle.lists.proofs.Kit.{needs}
 use Rattle.target_bin.specs.Checks.{chamberOk}
-use borrow.Author.Needs.{needs}
-use Rattle.target_bin.proofs.checks.chamber_ok.Statement.{statement}
-use Rattle.target_bin.proofs.checks.chamber_ok.Tie as tie
+use Rattle.target_bin.proofs.checks.chamber_ok as it
 
-read-requires : tie.Need-read-requires
-read-requires c κs = search needs
-
-shape-ok-requires : tie.Need-shape-ok-requires
-shape-ok-requires c κs = search needs
-
-returns : tie.Need-returns
-unfolding chamberOk
-returns c = cc
-
-pub chamber-ok-spec : {M : Type 1} → statement M
-chamber-ok-spec = tie.close (tie.spec read-requires shape-ok-requires returns)
+pub chamber-ok-spec : {M : Type 1} → it.Statement.statement M
+chamber-ok-spec =
+    it.Tie.close
+    (it.Tie.spec (λ c κs. search needs) (λ c κs. search needs) (λ c. unfold chamberOk in cc))

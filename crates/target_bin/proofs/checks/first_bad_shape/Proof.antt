@@ -1,54 +1,28 @@
-use Prim.Native.Nat.{_≤_, _-_}
-use mathlib.Core.Path.{_≡_, sym, ap, _∙_}
-use mathlib.Core.Bool.{not}
-use borrow.Author.Needs.{needs}
+use Rattle.lists.proofs.Kit.{_≤_, _-_, _≡_, sym, ap, _∙_, not, needs}
 use Rattle.lists.proofs.Lowests.{None, none-zero, none-more, lowest-here, lowest-end}
 use Rattle.target_bin.specs.Chambers.{chamberCount}
 use Rattle.target_bin.specs.Checks.{badShape}
-use Rattle.target_bin.proofs.checks.first_bad_shape.Statement.{statement}
-use Rattle.target_bin.proofs.checks.first_bad_shape.Tie as tie
+use Rattle.target_bin.proofs.checks.first_bad_shape as it
 
-abbrev Inv-loop : tie.InvT-loop
+abbrev Inv-loop : it.Tie.InvT-loop
 Inv-loop chambers n i₀ i = (n ≡ chamberCount chambers) × ((i ≤ n) × None i (badShape chambers))
 
-abbrev μ-loop : tie.MeasureT-loop
+abbrev μ-loop : it.Tie.MeasureT-loop
 μ-loop chambers n i₀ i = n - i
 
-loop-holds : tie.Need-loop-holds Inv-loop μ-loop
-loop-holds c = (search needs, (search needs, none-zero _))
-
-shape-ok-requires : tie.Need-shape-ok-requires Inv-loop μ-loop
-shape-ok-requires c κs = search needs
-
-returns : tie.Need-returns Inv-loop μ-loop
+returns : it.Tie.Need-returns Inv-loop μ-loop
 returns c =
     let h = c .before .before .before in
     sym (lowest-here _ _ _ (h .loop .inv .1 .1) (search needs) (ap not (sym (c .before .shape-ok .ensures)) ∙ c .if1 .taken))
 
-add-i : tie.Need-add-i Inv-loop μ-loop
-add-i c = search needs
-
-loop-less : tie.Need-loop-less Inv-loop μ-loop
-loop-less c = search needs
-
-loop-again : tie.Need-loop-again Inv-loop μ-loop
+loop-again : it.Tie.Need-loop-again Inv-loop μ-loop
 loop-again c =
     let h = c .before .before .before in
     (search needs, (search needs, none-more _ _ (h .loop .inv .1 .1) (ap not (sym (c .before .shape-ok .ensures)) ∙ c .if1 .left)))
 
-returns-2 : tie.Need-returns-2 Inv-loop μ-loop
-returns-2 c = let h = c .before .loop .inv in h .0 ∙ sym (lowest-end _ _ _ (h .1 .1) (search needs))
-
-pub first-bad-shape-spec : {M : Type 1} → statement M
+pub first-bad-shape-spec : {M : Type 1} → it.Statement.statement M
 first-bad-shape-spec =
-    tie.close
-    (tie.spec
-    Inv-loop
-    μ-loop
-    loop-holds
-    shape-ok-requires
-    returns
-    add-i
-    loop-less
-    loop-again
-    returns-2)
+    it.Tie.close
+    (it.Tie.spec Inv-loop μ-loop (λ c. (search needs, (search needs, none-zero _))) (λ c κs. search needs) returns
+    (λ c. search needs) (λ c. search needs) loop-again
+    (λ c. let h = c .before .loop .inv in h .0 ∙ sym (lowest-end _ _ _ (h .1 .1) (search needs))))

@@ -1,20 +1,8 @@
+use Rattle.lists.proofs.Kit.{needs}
 use Rattle.target_bin.specs.Checks.{shapeOk}
-use borrow.Author.Needs.{needs}
-use Rattle.target_bin.proofs.checks.shape_ok.Statement.{statement}
-use Rattle.target_bin.proofs.checks.shape_ok.Tie as tie
+use Rattle.target_bin.proofs.checks.shape_ok as it
 
-read-requires : tie.Need-read-requires
-read-requires c κs = search needs
-
-id-ok-requires : tie.Need-id-ok-requires
-id-ok-requires c κs = search needs
-
-in-range-requires : tie.Need-in-range-requires
-in-range-requires c κs = search needs
-
-returns : tie.Need-returns
-unfolding shapeOk
-returns c = cc
-
-pub shape-ok-spec : {M : Type 1} → statement M
-shape-ok-spec = tie.close (tie.spec read-requires id-ok-requires in-range-requires returns)
+pub shape-ok-spec : {M : Type 1} → it.Statement.statement M
+shape-ok-spec =
+    it.Tie.close
+    (it.Tie.spec (λ c κs. search needs) (λ c κs. search needs) (λ c κs. search needs) (λ c. unfold shapeOk in cc))

@@ -1,12 +1,5 @@
-use borrow.Author.Needs.{needs}
-use Rattle.bin_section.proofs.rect_to_insert.RectToInsert.new.Statement.{statement}
-use Rattle.bin_section.proofs.rect_to_insert.RectToInsert.new.Tie as tie
+use Rattle.lists.proofs.Kit.{needs}
+use Rattle.bin_section.proofs.rect_to_insert.RectToInsert.new as it
 
-new-requires : tie.Need-new-requires
-new-requires c κs = search needs
-
-returns : tie.Need-returns
-returns c = cc
-
-pub new-spec : {M : Type 1} → statement M
-new-spec = tie.close (tie.spec new-requires returns)
+pub new-spec : {M : Type 1} → it.Statement.statement M
+new-spec = it.Tie.close (it.Tie.spec (λ c κs. search needs) (λ c. cc))

@@ -1,93 +1,13 @@
-use native.Mathlib.Omega.{arith}
-use Prim.Native.Nat.{_*_}
-use denote.Ref.{now}
-use lib.ListN.{length-set}
+use Rattle.lists.proofs.Kit.{arith, _*_, now, length-set, needs}
 use Rattle.bin_section.proofs.Words.{six-stores}
-use borrow.Author.Needs.{needs}
-use Rattle.bin_section.proofs.section.BinSection.write.Statement.{statement}
-use Rattle.bin_section.proofs.section.BinSection.write.Tie as tie
+use Rattle.bin_section.proofs.section.BinSection.write as it
 
-mul-at : tie.Need-mul-at
-mul-at c = search needs
-
-mul-words : tie.Need-mul-words
-mul-words c = search needs
-
-slice-write-words : tie.Need-slice-write-words
-slice-write-words c = search needs
-
-add-words : tie.Need-add-words
-add-words c = search needs
-
-mul-words-2 : tie.Need-mul-words-2
-mul-words-2 c = search needs
-
-slice-write-words-2 : tie.Need-slice-write-words-2
-slice-write-words-2 c = simp length-set (omega arith)
-
-add-words-2 : tie.Need-add-words-2
-add-words-2 c = search needs
-
-mul-words-3 : tie.Need-mul-words-3
-mul-words-3 c = search needs
-
-slice-write-words-3 : tie.Need-slice-write-words-3
-slice-write-words-3 c = simp length-set (omega arith)
-
-add-words-3 : tie.Need-add-words-3
-add-words-3 c = search needs
-
-mul-words-4 : tie.Need-mul-words-4
-mul-words-4 c = search needs
-
-slice-write-words-4 : tie.Need-slice-write-words-4
-slice-write-words-4 c = simp length-set (omega arith)
-
-add-words-4 : tie.Need-add-words-4
-add-words-4 c = search needs
-
-mul-words-5 : tie.Need-mul-words-5
-mul-words-5 c = search needs
-
-slice-write-words-5 : tie.Need-slice-write-words-5
-slice-write-words-5 c = simp length-set (omega arith)
-
-add-words-5 : tie.Need-add-words-5
-add-words-5 c = search needs
-
-mul-words-6 : tie.Need-mul-words-6
-mul-words-6 c = search needs
-
-slice-write-words-6 : tie.Need-slice-write-words-6
-slice-write-words-6 c = simp length-set (omega arith)
-
-same-length : tie.Need-same-length
-same-length c = simp length-set
-
-returns : tie.Need-returns
-returns c = let a = c .args in six-stores (now (a .words)) (a .i * 6) _ _ _ _ _ _ (search needs)
-
-pub write-spec : {M : Type 1} → statement M
+pub write-spec : {M : Type 1} → it.Statement.statement M
 write-spec =
-    tie.close
-    (tie.spec
-    mul-at
-    mul-words
-    slice-write-words
-    add-words
-    mul-words-2
-    slice-write-words-2
-    add-words-2
-    mul-words-3
-    slice-write-words-3
-    add-words-3
-    mul-words-4
-    slice-write-words-4
-    add-words-4
-    mul-words-5
-    slice-write-words-5
-    add-words-5
-    mul-words-6
-    slice-write-words-6
-    same-length
-    returns)
+    it.Tie.close
+    (it.Tie.spec (λ c. search needs) (λ c. search needs) (λ c. search needs) (λ c. search needs) (λ c. search needs)
+    (λ c. simp length-set (omega arith)) (λ c. search needs) (λ c. search needs) (λ c. simp length-set (omega arith))
+    (λ c. search needs) (λ c. search needs) (λ c. simp length-set (omega arith)) (λ c. search needs)
+    (λ c. search needs) (λ c. simp length-set (omega arith)) (λ c. search needs) (λ c. search needs)
+    (λ c. simp length-set (omega arith)) (λ c. simp length-set)
+    (λ c. let a = c .args in six-stores (now (a .words)) (a .i * 6) _ _ _ _ _ _ (search needs)))
