@@ -13,10 +13,10 @@ use Rattle.lists.specs.Lowest.{lowest}
 use Rattle.lists.proofs.Lowests.{lowest-none, lowest-here, lowest-fires, none-below-lowest, none-of-lowest}
 use Rattle.bin_section.specs.declared.width_height_depth.WidthHeightDepth.{WidthHeightDepth}
 use Rattle.bin_section.specs.declared.section.BinSection.{BinSection}
-use Rattle.bin_section.specs.declared.reply.Reply.{Reply}
+use Rattle.replies.specs.declared.reply.Reply.{Reply}
 use Rattle.bin_section.specs.Sides.{volumeOf, sidesOk}
 use Rattle.bin_section.specs.Section.{wordsOf}
-use Rattle.bin_section.specs.Replies.{reply}
+use Rattle.replies.specs.Replies.{reply}
 use Rattle.bin_section.specs.Inside.{outside}
 use Rattle.bin_section.proofs.Bounding.{not-outside→inside, inside→not-outside, outside→not-inside, not-inside→outside}
 use Rattle.cells.specs.Whole.{boxAt, AllInside, Apart, Whole, volumes}

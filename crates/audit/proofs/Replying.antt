@@ -12,9 +12,9 @@ use Rattle.lists.specs.Lowest.{lowest}
 use Rattle.lists.proofs.Flags.{true-false, and-first, and-second}
 use Rattle.bin_section.specs.declared.width_height_depth.WidthHeightDepth.{WidthHeightDepth}
 use Rattle.bin_section.specs.declared.section.BinSection.{BinSection}
-use Rattle.bin_section.specs.declared.reply.Reply.{Reply}
+use Rattle.replies.specs.declared.reply.Reply.{Reply}
 use Rattle.bin_section.specs.Sides.{volumeOf, sidesOk}
-use Rattle.bin_section.specs.Replies.{reply, inOrder}
+use Rattle.replies.specs.Replies.{reply, inOrder}
 use Rattle.bin_section.specs.Inside.{outside}
 use Rattle.cells.specs.Whole.{boxAt, volumes}
 use Rattle.audit.specs.Audit.{auditBoxes, lengthsOk, sharesEarlier, auditReply, shownOf, Audited, audited, auditOf}

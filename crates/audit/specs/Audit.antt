@@ -8,12 +8,12 @@ use Rattle.lists.specs.Lowest.{anyBelow}
 use Rattle.lists.specs.Tab.{tab}
 use Rattle.bin_section.specs.declared.width_height_depth.WidthHeightDepth.{WidthHeightDepth}
 use Rattle.bin_section.specs.declared.section.BinSection.{BinSection}
-use Rattle.bin_section.specs.declared.reply.Reply.{Reply}
+use Rattle.replies.specs.declared.reply.Reply.{Reply}
 use Rattle.bin_section.specs.Sides.{volumeOf, sidesOk}
 use Rattle.bin_section.specs.Section.{sectionAt}
 use Rattle.bin_section.specs.Overlap.{overlapsOf}
 use Rattle.bin_section.specs.Inside.{outside}
-use Rattle.bin_section.specs.Replies.{reply, Check, once, each, inOrder}
+use Rattle.replies.specs.Replies.{reply, Check, once, each, inOrder}
 use Rattle.cells.specs.Whole.{boxAt, volumes}
 
 -- "6 words each": the boxes of a list of words
@@ -34,14 +34,14 @@ sharesEarlier boxes j = anyBelow j (λ i. overlapsOf (boxAt boxes i) (boxAt boxe
 
 -- "Audit: 1, 2 (sides of its one chamber), 16, 17, 18". Where neither 16 nor 17 is given, a cell is in no box exactly when
 -- the volumes do not sum to the chamber's: `Meaning` says what each reply means in cells.
-abbrev pub auditChecks : WidthHeightDepth → List ℕ → List ℕ → List BinSection → List Check
+abbrev pub auditChecks : WidthHeightDepth → List ℕ → List ℕ → List BinSection → List (Check Reply)
 auditChecks whd placed free boxes =
-    once 1 (not (lengthsOk (length placed) (length free)))
-    ∷ once 2 (not (sidesOk whd))
+    once (reply 1 0) (not (lengthsOk (length placed) (length free)))
+    ∷ once (reply 2 0) (not (sidesOk whd))
     -- "a box has a zero side or reaches past the chamber"
-    ∷ each 16 (length boxes) (λ i. outside whd (boxAt boxes i))
-    ∷ each 17 (length boxes) (sharesEarlier boxes)
-    ∷ once 18 (not (eqb (volumes boxes) (volumeOf whd)))
+    ∷ each (reply 16) (length boxes) (λ i. outside whd (boxAt boxes i))
+    ∷ each (reply 17) (length boxes) (sharesEarlier boxes)
+    ∷ once (reply 18 0) (not (eqb (volumes boxes) (volumeOf whd)))
     ∷ []
 
 unfoldable pub auditReply : WidthHeightDepth → List ℕ → List ℕ → Reply

@@ -6,9 +6,9 @@ use mathlib.Core.List.{List}
 use lib.ListN.{length}
 use Rattle.bin_section.specs.declared.width_height_depth.WidthHeightDepth.{WidthHeightDepth}
 use Rattle.bin_section.specs.declared.section.BinSection.{BinSection}
-use Rattle.bin_section.specs.declared.reply.Reply.{Reply}
+use Rattle.replies.specs.declared.reply.Reply.{Reply}
 use Rattle.bin_section.specs.Cell.{SharesCell}
-use Rattle.bin_section.specs.Replies.{reply}
+use Rattle.replies.specs.Replies.{reply}
 use Rattle.cells.specs.Whole.{boxAt, Inside, AllInside, Apart, Whole, Gap}
 
 -- box i is the lowest that does not lie inside with no zero side

@@ -2,7 +2,7 @@
 use Prim.Native.Nat.{ℕ, _+_, _*_, _<_}
 use mathlib.Core.Path.{_≡_}
 use mathlib.Core.Logic.{_⊎_}
-use Rattle.bin_section.specs.declared.reply.Reply.{Reply}
+use Rattle.replies.specs.declared.reply.Reply.{Reply}
 
 -- a part starts at box i of a list: in the list's block, six words of four bytes a box past the list's start
 pub record StartsAt (list : ℕ × ℕ) (i : ℕ) (part : ℕ × ℕ) : Type 0 where

@@ -4,7 +4,7 @@ ghost use Prim.Native.Nat.{_+_, _*_, _/_, _%_, _<_};
 ghost use lib.ListN.{length, take, drop};
 ghost use mathlib.Core.List.{_++_};
 ghost use denote.Ref.{ptr};
-ghost use Rattle.bin_section.specs.Replies.{reply};
+ghost use Rattle.replies.specs.Replies.{reply};
 ghost use Rattle.audit.specs.Audit.{lengthsOk, auditReply, audited, auditOf};
 ghost use Rattle.audit.specs.Place.{LiesAt, ShownAt};
 
@@ -13,12 +13,12 @@ mod checks;
 mod near;
 
 use bin_section::BinSection;
-use bin_section::Reply;
 use bin_section::WidthHeightDepth;
 use boxes::boxes_in;
 use checks::fills;
 use checks::first_outside;
 use checks::first_shared;
+use replies::Reply;
 
 // The numbers of an audit's replies, and its limit.
 pub struct ChamberAudit {}

@@ -12,8 +12,8 @@ use lib.ListN.{length, getD, take, drop, length-take, length-drop}
 use lib.Seq.{take-all, take-at}
 use Rattle.lists.proofs.Flags.{and-second, and-no-second}
 use Rattle.bin_section.specs.declared.width_height_depth.WidthHeightDepth.{WidthHeightDepth}
-use Rattle.bin_section.specs.declared.reply.Reply.{Reply}
-use Rattle.bin_section.specs.Replies.{reply}
+use Rattle.replies.specs.declared.reply.Reply.{Reply}
+use Rattle.replies.specs.Replies.{reply}
 use Rattle.wire.specs.Word.{wordAt, wordsIn}
 use Rattle.wire.proofs.Filling.{length-wordsIn}
 use Rattle.audit.specs.Audit.{lengthsOk, auditReply}

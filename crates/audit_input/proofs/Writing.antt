@@ -9,7 +9,7 @@ use lib.Dec.{eqb}
 use lib.ListN.{length, drop, length-append, length-drop}
 use lib.Seq.{take-at, drop-at}
 use Rattle.lists.specs.Tab.{put}
-use Rattle.bin_section.specs.declared.reply.Reply.{Reply}
+use Rattle.replies.specs.declared.reply.Reply.{Reply}
 use Rattle.text.specs.Ascii.{ascii}
 use Rattle.text.specs.Decimal.{item}
 use Rattle.text.specs.Written.{Written}

@@ -5,9 +5,9 @@ use mathlib.Core.Bool.{Bool, _&&_, cond}
 use lib.Dec.{eqb}
 use lib.ListN.{length, getD, drop}
 use Rattle.bin_section.specs.declared.width_height_depth.WidthHeightDepth.{WidthHeightDepth}
-use Rattle.bin_section.specs.declared.reply.Reply.{Reply}
+use Rattle.replies.specs.declared.reply.Reply.{Reply}
 use Rattle.bin_section.specs.Sides.{sides}
-use Rattle.bin_section.specs.Replies.{reply}
+use Rattle.replies.specs.Replies.{reply}
 use Rattle.wire.specs.Word.{wordAt, wordsIn}
 use Rattle.audit.specs.Audit.{auditReply}
 

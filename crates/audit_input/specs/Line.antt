@@ -5,7 +5,7 @@ use mathlib.Core.List.{List, [], _++_}
 use mathlib.Core.Bool.{_||_, cond}
 use lib.Dec.{eqb}
 use lib.ListN.{length, take, drop}
-use Rattle.bin_section.specs.declared.reply.Reply.{Reply}
+use Rattle.replies.specs.declared.reply.Reply.{Reply}
 use Rattle.text.specs.Ascii.{ascii}
 use Rattle.text.specs.Decimal.{item}
 use Rattle.audit_input.specs.Input.{inputReply}

@@ -10,8 +10,8 @@ use crate::AuditInput;
 use audit::ChamberAudit;
 use audit::audit;
 use bin_section::BinSection;
-use bin_section::Reply;
 use bin_section::WidthHeightDepth;
+use replies::Reply;
 
 const MOST_WORDS: usize = ChamberAudit::MOST_BOXES * BinSection::WORDS;
 

@@ -5,7 +5,7 @@ ghost use lib.ListN.{length};
 ghost use Rattle.text.specs.Written.{Written};
 ghost use Rattle.audit_input.specs.Line.{nameOf, indexOf, lineFor, Wrote};
 use audit::ChamberAudit;
-use bin_section::Reply;
+use replies::Reply;
 use text::write_item;
 use text::write_text;
 

@@ -3,4 +3,3 @@ pub mod Section
 pub mod Cell
 pub mod Overlap
 pub mod Inside
-pub mod Replies

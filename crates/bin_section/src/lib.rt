@@ -1,8 +1,7 @@
-// The ground floor: sides, volume, a section and its words, inside, overlap, replies.
+// The ground floor: sides, volume, a section and its words, inside, overlap.
 mod bounds;
 mod overlaps;
 mod rect_to_insert;
-mod reply;
 mod section;
 mod width_height_depth;
 
@@ -10,7 +9,6 @@ pub use bounds::inside;
 pub use overlaps::greater;
 pub use overlaps::lesser;
 pub use rect_to_insert::RectToInsert;
-pub use reply::Reply;
 pub use section::BinSection;
 pub use width_height_depth::WidthHeightDepth;
 pub use width_height_depth::side_ok;

@@ -7,8 +7,8 @@ use lib.Dec.{eqb}
 use lib.ListN.{length}
 use borrow.Author.Tests.{eqb-true, eq-eqb, ne-eqb}
 use Rattle.lists.proofs.Flags.{and-first, and-second}
-use Rattle.bin_section.specs.declared.reply.Reply.{Reply}
-use Rattle.bin_section.specs.Replies.{reply, inOrder}
+use Rattle.replies.specs.declared.reply.Reply.{Reply}
+use Rattle.replies.specs.Replies.{reply, inOrder}
 use Rattle.bin_section.specs.Section.{sectionAt}
 use Rattle.bin_section.specs.Sides.{sidesIn}
 use Rattle.try_place.specs.Try.{tryOf}

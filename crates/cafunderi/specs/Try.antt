@@ -4,10 +4,10 @@ use mathlib.Core.List.{List, [], _∷_, _++_}
 use mathlib.Core.Bool.{Bool, _&&_, not}
 use lib.Dec.{eqb}
 use lib.ListN.{length, getD}
-use Rattle.bin_section.specs.declared.reply.Reply.{Reply}
+use Rattle.replies.specs.declared.reply.Reply.{Reply}
 use Rattle.bin_section.specs.declared.rect_to_insert.RectToInsert.{RectToInsert}
 use Rattle.bin_section.specs.declared.section.BinSection.{BinSection}
-use Rattle.bin_section.specs.Replies.{reply, once, inOrder}
+use Rattle.replies.specs.Replies.{reply, once, inOrder}
 use Rattle.bin_section.specs.Section.{zeroSection, sectionAt, wordsOf}
 use Rattle.bin_section.specs.Sides.{sidesIn}
 use Rattle.try_place.specs.declared.packed_location.PackedLocation.{PackedLocation}
@@ -50,5 +50,5 @@ triedOutcome t = tryOutcome (reply (numberOf (t .answer)) 0) (triedWords t)
 -- "a wrong length is 1", and "every refusal but 7 writes nothing"; then the try of the words that are lent
 unfoldable pub tryFace : List ℕ → List ℕ → List ℕ → TryOutcome
 tryFace section rectangle placed =
-    inOrder (once 1 (not (tryLengthsOk section rectangle placed)) ∷ []) (λ r. tryOutcome r placed)
+    inOrder (once (reply 1 0) (not (tryLengthsOk section rectangle placed)) ∷ []) (λ r. tryOutcome r placed)
     (triedOutcome (tryOf (sectionAt section 0) (rectangleIn rectangle)))

@@ -12,9 +12,9 @@ mod try_words;
 
 use audit::audit;
 use bin_section::BinSection;
-use bin_section::Reply;
 use bin_section::WidthHeightDepth;
 use rectangle_pack::pack;
+use replies::Reply;
 use target_bin::fresh;
 use target_bin::return_section;
 use try_words::lengths_ok;

@@ -9,12 +9,12 @@ use lib.Dec.{ltb, leb, eqb}
 use lib.ListN.{length, take}
 use lib.Seq.{length-take-le, take-all, take-take}
 use Rattle.lists.proofs.Flags.{and-both}
-use Rattle.bin_section.specs.declared.reply.Reply.{Reply}
+use Rattle.replies.specs.declared.reply.Reply.{Reply}
 use Rattle.bin_section.specs.declared.section.BinSection.{BinSection}
 use Rattle.bin_section.specs.declared.width_height_depth.WidthHeightDepth.{WidthHeightDepth}
 use Rattle.bin_section.specs.Sides.{sideOk, sidesOk}
 use Rattle.bin_section.specs.Section.{wordsOf}
-use Rattle.bin_section.specs.Replies.{reply}
+use Rattle.replies.specs.Replies.{reply}
 use Rattle.cells.specs.Whole.{Whole}
 use Rattle.sections.specs.Sections.{sections, allWords}
 use Rattle.sections.proofs.Chunks.{length-joined}

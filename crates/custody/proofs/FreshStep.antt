@@ -6,12 +6,12 @@ use native.Mathlib.Omega.{arith}
 use borrow.Author.Tests.{not-false}
 use lib.ListN.{getD, List·getD-map}
 use Rattle.lists.specs.Sort.{none}
-use Rattle.bin_section.specs.declared.reply.Reply.{Reply}
+use Rattle.replies.specs.declared.reply.Reply.{Reply}
 use Rattle.bin_section.specs.declared.section.BinSection.{BinSection}
 use Rattle.bin_section.specs.declared.width_height_depth.WidthHeightDepth.{WidthHeightDepth}
 use Rattle.bin_section.specs.Sides.{sides}
 use Rattle.bin_section.specs.Section.{wholeSection}
-use Rattle.bin_section.specs.Replies.{Check, reply, once, inOrder}
+use Rattle.replies.specs.Replies.{Check, reply, once, inOrder}
 use Rattle.cells.specs.Whole.{Inside, Whole}
 use Rattle.cells.proofs.Grid.{has-le, has-in}
 use Rattle.cells.proofs.Held.{held, whole-held}
@@ -22,7 +22,7 @@ use Rattle.target_bin.specs.Store.{freeAt}
 use Rattle.target_bin.specs.Checks.{badShape, check1, check2Fresh}
 use Rattle.target_bin.specs.Outcome.{Outcome, outcome, refused}
 use Rattle.target_bin.specs.Fresh.{freshTable, freshStore, freshOf}
-use Rattle.target_bin.proofs.Ordering as ordering
+use Rattle.replies.proofs.Ladders as ordering
 use Rattle.target_bin.proofs.Passing.{Lengths, lengths, SidesInRange, ShapesSound, shapes-sound, no-fault}
 use Rattle.target_bin.proofs.Tables.{getD-chambersOf}
 use Rattle.target_bin.proofs.Parts.{getD-freeOf}
@@ -61,7 +61,7 @@ module _ (whd : WidthHeightDepth) (ok : SidesInRange whd) where
       })
 
 module _ (chambers store : List ℕ) (done : freshOf chambers store .reply .number ≡ 0) where
-  abbrev row : List Check
+  abbrev row : List (Check Reply)
   row = check1 chambers store ∷ check2Fresh chambers ∷ []
 
   abbrev out : Outcome

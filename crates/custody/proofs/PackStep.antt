@@ -14,11 +14,11 @@ use Rattle.lists.specs.Sort.{Each, none, also}
 use Rattle.lists.proofs.Flags.{cond-yes, cond-no, and-first, and-second, or-none}
 use Rattle.lists.proofs.Lowests.{None}
 use Rattle.lists.proofs.Sorts.{each-map, sort-each}
-use Rattle.bin_section.specs.declared.reply.Reply.{Reply}
+use Rattle.replies.specs.declared.reply.Reply.{Reply}
 use Rattle.bin_section.specs.declared.section.BinSection.{BinSection}
 use Rattle.bin_section.specs.declared.width_height_depth.WidthHeightDepth.{WidthHeightDepth}
 use Rattle.bin_section.specs.Sides.{sideOk, sidesOk, Small}
-use Rattle.bin_section.specs.Replies.{Check, reply, once, each, inOrder}
+use Rattle.replies.specs.Replies.{Check, reply, once, each, inOrder}
 use Rattle.cells.specs.Whole.{Whole}
 use Rattle.cells.proofs.Grid.{has}
 use Rattle.cells.proofs.Held.{held, held-append, whole-same}
@@ -28,7 +28,7 @@ use Rattle.target_bin.specs.declared.chamber.TargetBin.{TargetBin}
 use Rattle.target_bin.specs.Chambers.{chamberAt, chamberCount, tableOf}
 use Rattle.target_bin.specs.Store.{freeAt, freeOf, storeOf}
 use Rattle.target_bin.specs.Checks.{check1, check2, check3}
-use Rattle.target_bin.proofs.Ordering as ordering
+use Rattle.replies.proofs.Ladders as ordering
 use Rattle.target_bin.proofs.Passing.{SidesInRange}
 use Rattle.target_bin.proofs.Parts.{length-freeOf, getD-freeOf}
 use Rattle.grouped_rects_to_place.specs.declared.rect_to_place.RectToPlace.{RectToPlace}
@@ -55,7 +55,7 @@ use Rattle.custody.proofs.Written.{written-count, written-at, written-f
 
 -- ---- a row of checks whose numbers are below 7
 
-low-answer : {cs : List Check} (r : Reply) → Each (λ c. c .answer .number < 7) cs → r .number < 7 → ordering.answerOf cs r .number < 7
+low-answer : {cs : List (Check Reply)} (r : Reply) → Each (λ c. c .answer .number < 7) cs → r .number < 7 → ordering.answerOf cs r .number < 7
 unfolding inOrder
 low-answer r none h = h
 low-answer r (also {x = c} {xs = cs} p ps) h = go (c .fires) (low-answer r ps h)
@@ -125,9 +125,9 @@ module _ (f : Hall) (good : Good f) (rects placements : List ℕ) where
   low : Each (λ x. x .answer .number < 7) (packChecks c s rects placements)
   unfolding packChecks rectChecks
   low =
-      also {x = once 1 (not (rectLengthsOk rects placements))} (omega arith) (also {x = check1 c s} (omega arith) (also {x = check2 c} (omega arith)
-      (also {x = check3 c s} (omega arith) (also {x = each 4 n (badRect r)} (omega arith)
-      (also {x = each 5 n (repeatedId r)} (omega arith) (also {x = each 6 m (noRoom c n)} (omega arith) none))))))
+      also {x = once (reply 1 0) (not (rectLengthsOk rects placements))} (omega arith) (also {x = check1 c s} (omega arith) (also {x = check2 c} (omega arith)
+      (also {x = check3 c s} (omega arith) (also {x = each (reply 4) n (badRect r)} (omega arith)
+      (also {x = each (reply 5) n (repeatedId r)} (omega arith) (also {x = each (reply 6) m (noRoom c n)} (omega arith) none))))))
 
   -- ---- refused by a check
 

@@ -13,7 +13,7 @@ use Rattle.bin_section.specs.declared.section.BinSection.{BinSection}
 use Rattle.bin_section.specs.Sides.{sides, sideOk}
 use Rattle.bin_section.specs.Section.{section, sectionAt}
 use Rattle.bin_section.specs.Overlap.{spansMeet, overlapsOf}
-use Rattle.bin_section.specs.Replies.{reply, inOrder}
+use Rattle.replies.specs.Replies.{reply, inOrder}
 use Rattle.cells.specs.Whole.{volumes}
 use Rattle.sections.specs.Sections.{sections, joined, allWords}
 use Rattle.bin_section.specs.Inside.{spanInside, insideOf}

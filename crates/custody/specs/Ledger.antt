@@ -5,7 +5,7 @@ use mathlib.Core.Bool.{Bool, _&&_, _||_, cond}
 use lib.Dec.{eqb}
 use lib.ListN.{getD}
 use Rattle.lists.specs.Pick.{picked}
-use Rattle.bin_section.specs.declared.reply.Reply.{Reply}
+use Rattle.replies.specs.declared.reply.Reply.{Reply}
 use Rattle.bin_section.specs.declared.section.BinSection.{BinSection}
 use Rattle.bin_section.specs.Section.{section}
 use Rattle.grouped_rects_to_place.specs.Rect.{rectAt}

@@ -16,7 +16,7 @@ use Rattle.lists.specs.Sum.{sumTo}
 use Rattle.lists.specs.Tab.{tab, removeAt, put}
 use Rattle.bin_section.specs.Section.{section, sectionAt}
 use Rattle.bin_section.specs.Overlap.{spansMeet, overlapsOf}
-use Rattle.bin_section.specs.Replies.{reply, inOrder}
+use Rattle.replies.specs.Replies.{reply, inOrder}
 use Rattle.bin_section.specs.Inside.{spanInside, insideOf}
 use Rattle.sections.specs.Sections.{sections, joined, allWords}
 use Rattle.target_bin.specs.Chambers.{chamberAt, chamberOf, chambersOf}

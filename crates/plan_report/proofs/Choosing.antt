@@ -5,7 +5,7 @@ use mathlib.Core.List.{List, _++_}
 use mathlib.Core.Bool.{true, false}
 use borrow.Author.Tests.{ne-eqb}
 use lib.ListN.{getD}
-use Rattle.bin_section.specs.declared.reply.Reply.{Reply}
+use Rattle.replies.specs.declared.reply.Reply.{Reply}
 use Rattle.plan_report.specs.Texts.{nothingPlaced, slipText, slipSaid, refusalText, refusal, namesChamber, lineOf, goesTo, coilTexts, summary, packReport}
 
 module _ (slip : ℕ) where

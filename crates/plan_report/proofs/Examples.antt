@@ -3,7 +3,7 @@ use mathlib.Core.Path.{_≡_, refl}
 use mathlib.Core.List.{List, [], _∷_, _++_}
 use Prim.Native.Nat.{ℕ}
 use Rattle.lists.specs.Pick.{picked}
-use Rattle.bin_section.specs.Replies.{reply}
+use Rattle.replies.specs.Replies.{reply}
 use Rattle.text.specs.Ascii.{ascii}
 use Rattle.text.specs.Decimal.{digitsIn, decimal}
 use Rattle.plan_report.specs.Texts.{lineTag, nothingPlaced, slipText, slipSaid, slipReport, refusalText, lineOf, refusal, placeText, goesTo, coilText, coilTexts, placedIn, summary, packReport}

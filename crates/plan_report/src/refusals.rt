@@ -5,7 +5,7 @@ ghost use lib.ListN.{length, getD};
 ghost use Rattle.text.specs.Written.{Written};
 ghost use Rattle.plan_report.specs.Texts.{refusalText, refusal, namesChamber, lineOf};
 use crate::phrases::write_line_tag;
-use bin_section::Reply;
+use replies::Reply;
 use text::write_item;
 use text::write_text;
 

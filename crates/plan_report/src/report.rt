@@ -9,7 +9,7 @@ use crate::refusals::PackReply;
 use crate::refusals::line_of;
 use crate::refusals::write_refusal;
 use crate::summary::write_summary;
-use bin_section::Reply;
+use replies::Reply;
 
 pub struct Report {}
 

@@ -9,7 +9,7 @@ use lib.Dec.{eqb}
 use lib.ListN.{length, take, drop, replicate, length-replicate, replicate-append-replicate}
 use lib.Seq.{length-take-le, take-at}
 use Rattle.lists.proofs.Flags.{cond-yes, cond-no}
-use Rattle.bin_section.specs.declared.reply.Reply.{Reply}
+use Rattle.replies.specs.declared.reply.Reply.{Reply}
 use Rattle.rectangle_pack.specs.Pack.{PackOutcome, packOutcome}
 use Rattle.text.specs.Written.{Written}
 use Rattle.plan_list.specs.declared.list.ListRead.{ListRead}

@@ -5,7 +5,7 @@ use mathlib.Core.List.{List}
 use borrow.Author.Tests.{eq-eqb, ne-eqb}
 use lib.Dec.{eqb}
 use Rattle.lists.proofs.Flags.{cond-yes, cond-no}
-use Rattle.bin_section.specs.declared.reply.Reply.{Reply}
+use Rattle.replies.specs.declared.reply.Reply.{Reply}
 use Rattle.target_bin.specs.Outcome.{Outcome, outcome}
 use Rattle.target_bin.specs.Fresh.{freshOf}
 use Rattle.rectangle_pack.specs.Pack.{PackOutcome, packOutcome, packOf}

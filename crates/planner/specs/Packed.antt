@@ -5,7 +5,7 @@ use mathlib.Core.List.{List}
 use mathlib.Core.Bool.{cond}
 use lib.Dec.{eqb}
 use lib.ListN.{length, take, replicate}
-use Rattle.bin_section.specs.declared.reply.Reply.{Reply}
+use Rattle.replies.specs.declared.reply.Reply.{Reply}
 use Rattle.target_bin.specs.Outcome.{Outcome}
 use Rattle.target_bin.specs.Fresh.{freshOf}
 use Rattle.rectangle_pack.specs.Pack.{PackOutcome, packOutcome, packOf}

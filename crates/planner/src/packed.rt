@@ -4,9 +4,9 @@ ghost use Prim.Native.Nat.{_*_, _≤_};
 ghost use lib.ListN.{length, take};
 ghost use Rattle.rectangle_pack.specs.Pack.{packOutcome};
 ghost use Rattle.planner.specs.Packed.{packFresh, PackedFront};
-use bin_section::Reply;
 use grouped_rects_to_place::RectToPlace;
 use rectangle_pack::pack;
+use replies::Reply;
 use target_bin::TargetBin;
 use target_bin::fresh;
 

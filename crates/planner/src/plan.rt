@@ -7,13 +7,13 @@ ghost use Rattle.plan_list.specs.Table.{readingOf, Few, Sized};
 ghost use Rattle.plan_report.specs.Texts.{packReport};
 ghost use Rattle.planner.specs.Plan.{listReport, planOf};
 use crate::packed::pack_front;
-use bin_section::Reply;
 use grouped_rects_to_place::RectToPlace;
 use plan_list::ListRead;
 use plan_list::read_list;
 use plan_report::Report;
 use plan_report::write_report;
 use plan_report::write_slip;
+use replies::Reply;
 use target_bin::TargetBin;
 
 struct PlanTables {}

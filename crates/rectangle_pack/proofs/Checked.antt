@@ -10,8 +10,8 @@ use lib.ListN.{length}
 use Rattle.lists.specs.Lowest.{lowest}
 use Rattle.lists.proofs.Flags.{and-first, and-second, and-no-first, and-no-second}
 use Rattle.lists.proofs.Lowests.{None}
-use Rattle.bin_section.specs.declared.reply.Reply.{Reply}
-use Rattle.bin_section.specs.Replies.{Check, reply, once, each, inOrder}
+use Rattle.replies.specs.declared.reply.Reply.{Reply}
+use Rattle.replies.specs.Replies.{Check, reply, once, each, inOrder}
 use Rattle.bin_section.specs.Section.{sectionAt}
 use Rattle.bin_section.specs.Sides.{Small}
 use Rattle.try_place.specs.Try.{Reachable}
@@ -20,7 +20,7 @@ use Rattle.target_bin.specs.declared.chamber.TargetBin.{TargetBin}
 use Rattle.target_bin.specs.Chambers.{chamberAt, chamberCount}
 use Rattle.target_bin.specs.Checks.{tableChecks}
 use Rattle.target_bin.specs.Store.{partAt}
-use Rattle.target_bin.proofs.Ordering.{fires, passes, all-done, Numbered, none, more, answerOf, first-passes, rest-passes, row-passes, row-fires, AllPass, no-more, and, all-pass}
+use Rattle.replies.proofs.Ladders.{fires, passes, all-done, Numbered, none, more, answerOf, first-passes, rest-passes, row-passes, row-fires, AllPass, no-more, and, all-pass}
 use Rattle.target_bin.proofs.Checking.{found-fires, found-passes}
 use Rattle.target_bin.proofs.Passing.{numbered, no-fault, Sound, sound-tables}
 use Rattle.grouped_rects_to_place.specs.Rect.{rectAt, GoodRects}
@@ -65,14 +65,14 @@ module _ (rects p : List ℕ) where
 -- ---- 4, 5 and 6
 
 module _ (c rects : List ℕ) where
-  check4 : Check
-  check4 = each 4 (rectCount rects) (badRect (rectAt rects))
+  check4 : Check Reply
+  check4 = each (reply 4) (rectCount rects) (badRect (rectAt rects))
 
-  check5 : Check
-  check5 = each 5 (rectCount rects) (repeatedId (rectAt rects))
+  check5 : Check Reply
+  check5 = each (reply 5) (rectCount rects) (repeatedId (rectAt rects))
 
-  check6 : Check
-  check6 = each 6 (chamberCount c) (noRoom c (rectCount rects))
+  check6 : Check Reply
+  check6 = each (reply 6) (chamberCount c) (noRoom c (rectCount rects))
 
   abbrev answer : Reply
   answer = answerOf (rectChecks c rects) (reply 0 0)
@@ -109,8 +109,8 @@ module _ (c rects : List ℕ) where
 -- ---- all of them
 
 module _ (c st rects p : List ℕ) where
-  check1 : Check
-  check1 = once 1 (not (rectLengthsOk rects p))
+  check1 : Check Reply
+  check1 = once (reply 1 0) (not (rectLengthsOk rects p))
 
   pub pack-lengths : rectLengthsOk rects p ≡ false → reply 1 0 ≡ answerOf (packChecks c st rects p) (reply 0 0)
   unfolding packChecks check1
@@ -140,7 +140,7 @@ module _ (c st rects p : List ℕ) where
       (more (λ (e : _≡_ {A = ℕ} 4 0). omega arith)
       (more (λ (e : _≡_ {A = ℕ} 5 0). omega arith) (more (λ (e : _≡_ {A = ℕ} 6 0). omega arith) none))))
     where
-      join : {xs ys : List Check} → Numbered xs → Numbered ys → Numbered (xs ++ ys)
+      join : {xs ys : List (Check Reply)} → Numbered xs → Numbered ys → Numbered (xs ++ ys)
       join none m = m
       join (more n rest) m = more n (join rest m)
 
@@ -150,17 +150,17 @@ module _ (c st rects p : List ℕ) where
     lengths-ok : rectLengthsOk rects p ≡ true
     unfolding packChecks
     lengths-ok =
-        not-false _ (first-passes (once 1 (not (rectLengthsOk rects p))) (tableChecks c st ++ rectChecks c rects) (reply 0 0) pack-numbered z)
+        not-false _ (first-passes (once (reply 1 0) (not (rectLengthsOk rects p))) (tableChecks c st ++ rectChecks c rects) (reply 0 0) pack-numbered z)
 
     rest-ok : answerOf (tableChecks c st ++ rectChecks c rects) (reply 0 0) .number ≡ 0
     unfolding packChecks
-    rest-ok = rest-passes (once 1 (not (rectLengthsOk rects p))) (tableChecks c st ++ rectChecks c rects) (reply 0 0) pack-numbered z
+    rest-ok = rest-passes (once (reply 1 0) (not (rectLengthsOk rects p))) (tableChecks c st ++ rectChecks c rects) (reply 0 0) pack-numbered z
 
     six : AllPass (tableChecks c st ++ rectChecks c rects)
     unfolding packChecks rectChecks
     six = all-pass (tableChecks c st ++ rectChecks c rects) (reply 0 0) (tail pack-numbered) rest-ok
       where
-        tail : {x : Check} {xs : List Check} → Numbered (x ∷ xs) → Numbered xs
+        tail : {x : Check Reply} {xs : List (Check Reply)} → Numbered (x ∷ xs) → Numbered xs
         tail (more n rest) = rest
 
     tables-ok : answerOf (tableChecks c st) (reply 0 0) .number ≡ 0

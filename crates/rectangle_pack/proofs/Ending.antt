@@ -3,12 +3,12 @@ use Prim.Native.Nat.{ℕ, _*_}
 use mathlib.Core.Path.{_≡_, refl, sym, ap, _∙_}
 use mathlib.Core.List.{List}
 use lib.ListN.{length, replicate}
-use Rattle.bin_section.specs.declared.reply.Reply.{Reply}
+use Rattle.replies.specs.declared.reply.Reply.{Reply}
 use Rattle.bin_section.specs.declared.section.BinSection.{BinSection}
-use Rattle.bin_section.specs.Replies.{reply, inOrder}
+use Rattle.replies.specs.Replies.{reply, inOrder}
 use Rattle.target_bin.specs.Chambers.{chamberAt}
 use Rattle.target_bin.specs.Store.{freeOf}
-use Rattle.target_bin.proofs.Ordering.{answerOf, alone-passes, alone-fires}
+use Rattle.replies.proofs.Ladders.{answerOf, alone-passes, alone-fires}
 use Rattle.grouped_rects_to_place.specs.Rect.{rectAt}
 use Rattle.grouped_rects_to_place.specs.Groups.{groupsOf}
 use Rattle.rectangle_pack.specs.Order.{trialOrder}

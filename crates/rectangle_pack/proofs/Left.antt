@@ -17,7 +17,7 @@ use Rattle.bin_section.specs.declared.rect_to_insert.RectToInsert.{RectToInsert
 use Rattle.bin_section.specs.declared.width_height_depth.WidthHeightDepth.{WidthHeightDepth}
 use Rattle.bin_section.specs.Section.{sectionAt, zeroSection}
 use Rattle.bin_section.specs.Sides.{volumeOf, Small}
-use Rattle.bin_section.specs.Replies.{reply}
+use Rattle.replies.specs.Replies.{reply}
 use Rattle.bin_section.specs.Inside.{Inside}
 use Rattle.sections.specs.Sections.{sections}
 use Rattle.try_place.specs.declared.packed_location.PackedLocation.{PackedLocation}

@@ -14,8 +14,8 @@ use Rattle.lists.proofs.Flags.{true-false}
 use Rattle.lists.proofs.Lowests.{lowest-none, lowest-here, lowest-fires, none-below-lowest, none-of-lowest}
 use Rattle.bin_section.specs.declared.section.BinSection.{BinSection}
 use Rattle.bin_section.specs.declared.rect_to_insert.RectToInsert.{RectToInsert}
-use Rattle.bin_section.specs.declared.reply.Reply.{Reply}
-use Rattle.bin_section.specs.Replies.{reply}
+use Rattle.replies.specs.declared.reply.Reply.{Reply}
+use Rattle.replies.specs.Replies.{reply}
 use Rattle.bin_section.specs.Section.{zeroSection}
 use Rattle.try_place.specs.declared.packed_location.PackedLocation.{PackedLocation}
 use Rattle.try_place.proofs.Remaining.{Within}

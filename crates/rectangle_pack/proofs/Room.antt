@@ -16,7 +16,7 @@ use Rattle.lists.proofs.Lowests.{None}
 use Rattle.lists.proofs.Tabs.{length-tab, getD-tab, length-removeAt}
 use Rattle.bin_section.specs.declared.section.BinSection.{BinSection}
 use Rattle.bin_section.specs.declared.rect_to_insert.RectToInsert.{RectToInsert}
-use Rattle.bin_section.specs.Replies.{reply}
+use Rattle.replies.specs.Replies.{reply}
 use Rattle.bin_section.specs.Section.{zeroSection}
 use Rattle.bin_section.specs.Sides.{volumeOf}
 use Rattle.sections.specs.Sections.{sections}

@@ -14,9 +14,9 @@ use Rattle.lists.proofs.Flags.{cond-yes, cond-no}
 use Rattle.lists.proofs.Picks.{pick-each}
 use Rattle.lists.proofs.Sorts.{each-at, sort-each}
 use Rattle.lists.proofs.Tabs.{length-tab, getD-tab}
-use Rattle.bin_section.specs.declared.reply.Reply.{Reply}
+use Rattle.replies.specs.declared.reply.Reply.{Reply}
 use Rattle.bin_section.specs.declared.section.BinSection.{BinSection}
-use Rattle.bin_section.specs.Replies.{reply}
+use Rattle.replies.specs.Replies.{reply}
 use Rattle.sections.proofs.Reading.{length-sections}
 use Rattle.target_bin.specs.declared.chamber.TargetBin.{TargetBin}
 use Rattle.target_bin.specs.Chambers.{bin, chamberAt, chamberCount, chambersOf, tableOf}

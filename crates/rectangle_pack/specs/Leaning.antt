@@ -17,7 +17,7 @@ use Rattle.target_bin.specs.Chambers.{chamberAt, chamberCount}
 use Rattle.target_bin.specs.Checks.{Shaped}
 use Rattle.target_bin.specs.Store.{partAt, freeOf}
 use Rattle.grouped_rects_to_place.specs.declared.rect_to_place.RectToPlace.{RectToPlace}
-use Rattle.bin_section.specs.declared.reply.Reply.{Reply}
+use Rattle.replies.specs.declared.reply.Reply.{Reply}
 use Rattle.grouped_rects_to_place.specs.Rect.{rectAt, GoodRects}
 use Rattle.rectangle_pack.specs.Packing.{State, state, rectsAt, trialIn, isWhole, firstWhole, changed, Ended, packGroups}
 use Rattle.rectangle_pack.specs.Order.{trialOrder}

@@ -5,9 +5,9 @@ use mathlib.Core.Bool.{Bool, _&&_, not}
 use lib.Dec.{ltb, leb, eqb}
 use lib.ListN.{length, getD, replicate}
 use Rattle.lists.specs.Tab.{tab}
-use Rattle.bin_section.specs.declared.reply.Reply.{Reply}
+use Rattle.replies.specs.declared.reply.Reply.{Reply}
 use Rattle.bin_section.specs.declared.section.BinSection.{BinSection}
-use Rattle.bin_section.specs.Replies.{Check, once, each, inOrder}
+use Rattle.replies.specs.Replies.{Check, once, each, inOrder, reply}
 use Rattle.target_bin.specs.declared.chamber.TargetBin.{TargetBin}
 use Rattle.target_bin.specs.Chambers.{bin, chamberAt, chamberCount, tableOf}
 use Rattle.target_bin.specs.Store.{freeOf, storeOf}
@@ -33,16 +33,16 @@ unfoldable pub noRoom : List ℕ → ℕ → ℕ → Bool
 noRoom chambers n k = ltb 128 (chamberAt chambers k .count + 2 * n)
 
 -- "Pack: 1 to 7." The seventh is the packing itself. Check 1 has two halves, the rectangles' tables and the chambers'.
-unfoldable pub rectChecks : List ℕ → List ℕ → List Check
+unfoldable pub rectChecks : List ℕ → List ℕ → List (Check Reply)
 rectChecks chambers rects =
-    each 4 (rectCount rects) (badRect (rectAt rects))
-    ∷ each 5 (rectCount rects) (repeatedId (rectAt rects))
-    ∷ each 6 (chamberCount chambers) (noRoom chambers (rectCount rects))
+    each (reply 4) (rectCount rects) (badRect (rectAt rects))
+    ∷ each (reply 5) (rectCount rects) (repeatedId (rectAt rects))
+    ∷ each (reply 6) (chamberCount chambers) (noRoom chambers (rectCount rects))
     ∷ []
 
-unfoldable pub packChecks : List ℕ → List ℕ → List ℕ → List ℕ → List Check
+unfoldable pub packChecks : List ℕ → List ℕ → List ℕ → List ℕ → List (Check Reply)
 packChecks chambers store rects placements =
-    once 1 (not (rectLengthsOk rects placements)) ∷ (tableChecks chambers store ++ rectChecks chambers rects)
+    once (reply 1 0) (not (rectLengthsOk rects placements)) ∷ (tableChecks chambers store ++ rectChecks chambers rects)
 
 -- the free sections as they are lent, and every rectangle unplaced
 unfoldable pub start : List ℕ → List ℕ → List ℕ → State

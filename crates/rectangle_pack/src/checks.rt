@@ -3,15 +3,15 @@ ghost use mathlib.Core.Path.{_≡_};
 ghost use Prim.Native.Nat.{_*_, _≤_};
 ghost use lib.ListN.{length};
 ghost use Rattle.lists.specs.Lowest.{lowest};
-ghost use Rattle.bin_section.specs.Replies.{reply, inOrder};
+ghost use Rattle.replies.specs.Replies.{reply, inOrder};
 ghost use Rattle.target_bin.specs.Chambers.{chamberCount};
 ghost use Rattle.target_bin.specs.Checks.{Counted};
 ghost use Rattle.rectangle_pack.specs.Pack.{rectCount, rectLengthsOk, noRoom, rectChecks, packChecks};
 use crate::placements;
-use bin_section::Reply;
 use grouped_rects_to_place::RectToPlace;
 use grouped_rects_to_place::first_bad_rect;
 use grouped_rects_to_place::first_repeated;
+use replies::Reply;
 use target_bin::TargetBin;
 use target_bin::check_tables;
 

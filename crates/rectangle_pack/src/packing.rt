@@ -15,10 +15,10 @@ use crate::checks::check_pack;
 use crate::groups::pack_group;
 use crate::order::sort_chambers;
 use crate::placements::clear_placements;
-use bin_section::Reply;
 use grouped_rects_to_place::RectToPlace;
 use grouped_rects_to_place::members_of;
 use grouped_rects_to_place::sort_groups;
+use replies::Reply;
 use sections::clear_past;
 use target_bin::TargetBin;
 

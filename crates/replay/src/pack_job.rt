@@ -9,9 +9,9 @@ use crate::tables::take_tables;
 use crate::words::fill;
 use crate::words::put_words;
 use crate::words::wide;
-use bin_section::Reply;
 use grouped_rects_to_place::RectToPlace;
 use rectangle_pack::pack;
+use replies::Reply;
 
 // The words of the placement table, and of the rectangle table.
 pub const MOST_WORDS: usize = RectToPlace::MOST * RectToPlace::WORDS;

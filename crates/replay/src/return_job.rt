@@ -7,7 +7,7 @@ use crate::tables::put_reply;
 use crate::tables::put_tables;
 use crate::tables::take_tables;
 use bin_section::BinSection;
-use bin_section::Reply;
+use replies::Reply;
 use target_bin::return_section;
 
 // The words after the tables: id and box.

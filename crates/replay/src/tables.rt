@@ -8,7 +8,7 @@ use crate::words::put_word;
 use crate::words::put_words;
 use crate::words::take_words;
 use bin_section::BinSection;
-use bin_section::Reply;
+use replies::Reply;
 use target_bin::TargetBin;
 
 // What stands in the store past the counts before a job.

@@ -4,7 +4,7 @@ ghost use Prim.Native.Nat.{_≤_};
 ghost use lib.ListN.{length};
 use bin_section::BinSection;
 use bin_section::RectToInsert;
-use bin_section::Reply;
+use replies::Reply;
 use try_place::PackedLocation;
 use try_place::Tried;
 use try_place::try_placement;

@@ -10,15 +10,17 @@ use lib.Dec.{ltb, leb, eqb}
 use Rattle.lists.specs.Lowest.{lowest, anyBelow}
 use Rattle.lists.proofs.Flags.{and-no-first, and-no-second}
 use Rattle.lists.proofs.Lowests.{None, none-of-lowest}
-use Rattle.bin_section.specs.Replies.{reply}
+use Rattle.replies.specs.Replies.{reply}
 use Rattle.sections.specs.Inside.{outsideAt}
 use Rattle.lists.proofs.Lowests.{any-lowest}
 use Rattle.target_bin.specs.declared.chamber.TargetBin.{TargetBin}
 use Rattle.target_bin.specs.Chambers.{chamberAt, chamberCount}
+use Rattle.replies.specs.declared.reply.Reply.{Reply}
+use Rattle.target_bin.specs.Outcome.{outcome}
 use Rattle.target_bin.specs.Store.{partAt}
 use Rattle.target_bin.specs.Checks.{lengthsOk, idOk, badChamber, badSections, check1, check2, check3, tableChecks}
 use Rattle.target_bin.proofs.Parts.{lent-part}
-use Rattle.target_bin.proofs.Ordering.{fires, passes, all-done, answerOf}
+use Rattle.replies.proofs.Ladders.{fires, passes, all-done, answerOf}
 
 -- ---- 1: a table's length
 module _ (chambers store : List ℕ) where
@@ -94,3 +96,7 @@ module _ (chambers store : List ℕ) where
           sym (past2
           ∙ passes (λ a. a) (reply 0 0) (check3 chambers store) [] (found-passes _ q (badSections chambers store) e′ h′)
           ∙ all-done (λ a. a) (reply 0 0))
+
+-- an outcome by its reply
+pub said : {r r′ : Reply} (chambers store : List ℕ) → r ≡ r′ → outcome r chambers store ≡ outcome r′ chambers store
+said chambers store e = ap (λ (r : Reply). outcome r chambers store) e

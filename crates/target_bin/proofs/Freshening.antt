@@ -11,7 +11,7 @@ use Rattle.lists.specs.Tab.{tab, put}
 use Rattle.lists.proofs.Tabs.{length-put}
 use Rattle.bin_section.specs.declared.section.BinSection.{BinSection}
 use Rattle.bin_section.specs.Section.{wholeSection, wordsOf}
-use Rattle.bin_section.specs.Replies.{reply}
+use Rattle.replies.specs.Replies.{reply}
 use Rattle.lists.specs.Lowest.{lowest}
 use Rattle.sections.specs.Sections.{sections, joined, allWords}
 use Rattle.sections.specs.Changes.{Cleared}
@@ -23,7 +23,7 @@ use Rattle.target_bin.specs.Store.{partOf, storeOf}
 use Rattle.target_bin.specs.Checks.{lengthsOk, badShape, check1, check2Fresh}
 use Rattle.target_bin.specs.Outcome.{Outcome, outcome, refused}
 use Rattle.target_bin.specs.Fresh.{freshened, freshTable, freshStore, freshOf}
-use Rattle.target_bin.proofs.Ordering.{fires, passes, all-done}
+use Rattle.replies.proofs.Ladders.{fires, passes, all-done}
 use Rattle.target_bin.proofs.Checking.{found-fires, found-passes}
 use Rattle.target_bin.proofs.Tables.{chamberAt-ext}
 use Rattle.target_bin.proofs.Parts.{length-partOf}

@@ -1,4 +1,3 @@
-pub mod Ordering
 pub mod Tables
 pub mod Parts
 pub mod Checking

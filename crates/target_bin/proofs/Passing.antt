@@ -12,10 +12,10 @@ use Rattle.lists.specs.Lowest.{lowest}
 use Rattle.lists.proofs.Flags.{and-both, and-first, and-second}
 use Rattle.lists.proofs.Lowests.{None, none-of-lowest, any-none, none-any, lowest-none}
 use Rattle.bin_section.specs.declared.width_height_depth.WidthHeightDepth.{WidthHeightDepth}
-use Rattle.bin_section.specs.declared.reply.Reply.{Reply}
+use Rattle.replies.specs.declared.reply.Reply.{Reply}
 use Rattle.bin_section.specs.Sides.{sideOk, sidesOk}
 use Rattle.bin_section.specs.Section.{sectionAt}
-use Rattle.bin_section.specs.Replies.{reply, each}
+use Rattle.replies.specs.Replies.{reply, each}
 use Rattle.sections.specs.Inside.{outsideAt}
 use Rattle.bin_section.specs.Inside.{Inside}
 use Rattle.bin_section.proofs.Bounding.{inside→, →inside}
@@ -23,7 +23,7 @@ use Rattle.target_bin.specs.Chambers.{chamberAt, chamberCount}
 use Rattle.target_bin.specs.Store.{partAt}
 use Rattle.target_bin.specs.Checks.{lengthsOk, idOk, shapeOk, chamberOk, badShape, badChamber, badSections, check1, check2, check3, tableChecks, Counted, Shaped}
 use Rattle.target_bin.proofs.Checking.{lengths-store, tables-pass}
-use Rattle.target_bin.proofs.Ordering.{Numbered, none, more, answerOf, first-passes, rest-passes}
+use Rattle.replies.proofs.Ladders.{Numbered, none, more, answerOf, first-passes, rest-passes}
 
 -- 1
 pub record Lengths (chambers store : List ℕ) : Type 0 where

@@ -15,12 +15,12 @@ use Rattle.lists.proofs.Tabs.{length-put}
 use Rattle.lists.proofs.Flags.{true-false}
 use Rattle.lists.proofs.Lowests.{lowest-fires, lowest-none}
 use Rattle.bin_section.specs.declared.section.BinSection.{BinSection}
-use Rattle.bin_section.specs.declared.reply.Reply.{Reply}
+use Rattle.replies.specs.declared.reply.Reply.{Reply}
 use Rattle.bin_section.specs.Section.{sectionAt, wordsOf}
 use Rattle.bin_section.specs.Sides.{sides}
 use Rattle.bin_section.specs.Cell.{SharesCell}
 use Rattle.bin_section.proofs.Sharing.{shares→overlaps, overlaps→shares}
-use Rattle.bin_section.specs.Replies.{Check, reply, once, each, inOrder}
+use Rattle.replies.specs.Replies.{Check, reply, once, each, inOrder}
 use Rattle.sections.specs.Sections.{sections}
 use Rattle.sections.specs.Inside.{insideOf, sharesAt}
 use Rattle.bin_section.specs.Inside.{Inside}
@@ -35,7 +35,7 @@ use Rattle.target_bin.specs.Lending.{OnlyIn}
 use Rattle.target_bin.specs.Checks.{badChamber, badSections, check1, check2, check3, tableChecks}
 use Rattle.target_bin.specs.Outcome.{Outcome, outcome, refused}
 use Rattle.target_bin.specs.Return.{pushChecks, returnChecks, stored, returned, returnOf}
-use Rattle.target_bin.proofs.Ordering.{Numbered, none, more, answerOf, AllPass, and, no-more, all-pass, in-map, alone-passes, alone-fires, passes, all-done, row-passes}
+use Rattle.replies.proofs.Ladders.{Numbered, none, more, answerOf, AllPass, and, no-more, all-pass, in-map, alone-passes, alone-fires, passes, all-done, row-passes}
 use Rattle.target_bin.proofs.Tables.{chamberAt-set-same, chamberAt-set-other, chambers-set}
 use Rattle.target_bin.proofs.Parts.{length-partAt, partAt-put-same, only-in, free-set}
 use Rattle.target_bin.proofs.Passing.{Sound, no-fault, sound, numbered, tables-sound}
@@ -172,19 +172,19 @@ module _ (chambers store : List ℕ) (id : ℕ) (box : BinSection) where
     pub apart : (j : ℕ) → j < chamberAt chambers (chamberOf chambers id) .count → SharesCell (sectionAt (partAt store (chamberOf chambers id)) j) box → ⊥
     pub room : chamberAt chambers (chamberOf chambers id) .count < 128
 
-  c8 : Check
-  c8 = once 8 (not (anyBelow (chamberCount chambers) (hasId chambers id)))
+  c8 : Check Reply
+  c8 = once (reply 8 0) (not (anyBelow (chamberCount chambers) (hasId chambers id)))
 
-  c9 : Check
-  c9 = once 9 (not (insideOf (there .whd) box))
+  c9 : Check Reply
+  c9 = once (reply 9 0) (not (insideOf (there .whd) box))
 
-  c10 : Check
-  c10 = each 10 (there .count) (sharesAt box (partAt store here))
+  c10 : Check Reply
+  c10 = each (reply 10) (there .count) (sharesAt box (partAt store here))
 
-  c11 : Check
-  c11 = once 11 (eqb (there .count) 128)
+  c11 : Check Reply
+  c11 = once (reply 11 0) (eqb (there .count) 128)
 
-  row : List Check
+  row : List (Check Reply)
   row = check1 chambers store ∷ check2 chambers ∷ check3 chambers store ∷ c8 ∷ c9 ∷ c10 ∷ c11 ∷ []
 
   row-numbered : Numbered row

@@ -11,9 +11,9 @@ use lib.Dec.{eqb}
 use Rattle.lists.specs.Lowest.{lowest, anyBelow}
 use Rattle.lists.specs.Tab.{put}
 use Rattle.bin_section.specs.declared.section.BinSection.{BinSection}
-use Rattle.bin_section.specs.declared.reply.Reply.{Reply}
+use Rattle.replies.specs.declared.reply.Reply.{Reply}
 use Rattle.bin_section.specs.Section.{wordsOf}
-use Rattle.bin_section.specs.Replies.{Check, reply, once, each, inOrder}
+use Rattle.replies.specs.Replies.{Check, reply, once, each, inOrder}
 use Rattle.sections.specs.Inside.{insideOf, sharesAt}
 use Rattle.target_bin.specs.declared.chamber.TargetBin.{TargetBin}
 use Rattle.target_bin.specs.Return.{pushChecks, returnChecks, stored, returned, returnOf}
@@ -22,7 +22,7 @@ use Rattle.target_bin.specs.Chambers.{chamberAt, chamberCount, hasId, ch
 use Rattle.target_bin.specs.Store.{partAt}
 use Rattle.target_bin.specs.Checks.{tableChecks}
 use Rattle.target_bin.specs.Outcome.{Outcome, outcome, refused}
-use Rattle.target_bin.proofs.Ordering.{fires, passes, all-done, Numbered, none, more, answerOf, first-passes, rest-passes, row-passes, row-fires, alone-passes, alone-fires}
+use Rattle.replies.proofs.Ladders.{fires, passes, all-done, Numbered, none, more, answerOf, first-passes, rest-passes, row-passes, row-fires, alone-passes, alone-fires}
 use Rattle.target_bin.proofs.Parts.{lent-part, came-back, length-partAt}
 use Rattle.target_bin.proofs.Checking.{found-fires, found-passes}
 use Rattle.target_bin.proofs.Passing.{numbered}
@@ -31,14 +31,14 @@ use Rattle.target_bin.proofs.Putting.{put-back, put-in-part}
 -- ---- checks 9, 10 and 11
 
 module _ {A : Type 0} (f : Reply → A) (d : A) (b : TargetBin) (part : List ℕ) (box : BinSection) where
-  c9 : Check
-  c9 = once 9 (not (insideOf (b .whd) box))
+  c9 : Check Reply
+  c9 = once (reply 9 0) (not (insideOf (b .whd) box))
 
-  c10 : Check
-  c10 = each 10 (b .count) (sharesAt box part)
+  c10 : Check Reply
+  c10 = each (reply 10) (b .count) (sharesAt box part)
 
-  c11 : Check
-  c11 = once 11 (eqb (b .count) 128)
+  c11 : Check Reply
+  c11 = once (reply 11 0) (eqb (b .count) 128)
 
   pub push-outside : insideOf (b .whd) box ≡ false → f (reply 9 0) ≡ inOrder (pushChecks b part box) f d
   unfolding pushChecks c9 c10 c11
@@ -72,10 +72,10 @@ push-numbered b part box =
 -- ---- checks 8 to 11, as the code comes to them
 
 module _ (chambers store : List ℕ) (id : ℕ) (box : BinSection) where
-  c8 : Check
-  c8 = once 8 (not (anyBelow (chamberCount chambers) (hasId chambers id)))
+  c8 : Check Reply
+  c8 = once (reply 8 0) (not (anyBelow (chamberCount chambers) (hasId chambers id)))
 
-  rest : List Check
+  rest : List (Check Reply)
   rest = pushChecks (chamberAt chambers (chamberOf chambers id)) (partAt store (chamberOf chambers id)) box
 
   -- the outcome that the checks from 8 on decide
@@ -102,7 +102,7 @@ module _ (chambers store : List ℕ) (id : ℕ) (box : BinSection) where
       past8 =
           passes (refused chambers store) (returned chambers store id box) c8 rest
           (ap not (any-lowest (chamberCount chambers) (hasId chambers id) ∙ found-fires _ k (hasId chambers id) found h))
-          ∙ ap₂ (λ (cs : List Check) (o : Outcome). inOrder cs (refused chambers store) o)
+          ∙ ap₂ (λ (cs : List (Check Reply)) (o : Outcome). inOrder cs (refused chambers store) o)
           (ap₂ (λ (x : TargetBin) (p : List ℕ). pushChecks x p box) bin-is (sym (lent-part store k ∙ ap (partAt store) found)))
           (ap₂ (λ (i : ℕ) (x : TargetBin). stored chambers store i (x .count) box) (sym found) bin-is)
 
@@ -143,9 +143,9 @@ module _ (chambers store : List ℕ) (id : ℕ) (box : BinSection) where
         unfolding pushChecks
         return-room z most =
             let z′ : answerOf (pushChecks b L box) (reply 0 (b .count)) .number ≡ 0 = sym (ap (λ (r : Reply). r .number) replied) ∙ z in
-            let c9 = once 9 (not (insideOf (b .whd) box)) in
-            let c10 = each 10 (b .count) (sharesAt box L) in
-            let c11 = once 11 (eqb (b .count) 128) in
+            let c9 = once (reply 9 0) (not (insideOf (b .whd) box)) in
+            let c10 = each (reply 10) (b .count) (sharesAt box L) in
+            let c11 = once (reply 11 0) (eqb (b .count) 128) in
             let n11 : Numbered (c11 ∷ []) = more (λ (e : _≡_ {A = ℕ} 11 0). omega arith) none in
             let n10 : Numbered (c10 ∷ c11 ∷ []) = more (λ (e : _≡_ {A = ℕ} 10 0). omega arith) n11 in
             let n9 : Numbered (c9 ∷ c10 ∷ c11 ∷ []) = more (λ (e : _≡_ {A = ℕ} 9 0). omega arith) n10 in

@@ -7,7 +7,8 @@ use lib.ListN.{length}
 use lib.Dec.{ltb, leb, eqb}
 use Rattle.lists.specs.Lowest.{anyBelow}
 use Rattle.bin_section.specs.Sides.{sidesOk}
-use Rattle.bin_section.specs.Replies.{Check, once, each}
+use Rattle.replies.specs.declared.reply.Reply.{Reply}
+use Rattle.replies.specs.Replies.{Check, once, each, reply}
 use Rattle.sections.specs.Inside.{outsideAt}
 use Rattle.target_bin.specs.Chambers.{chamberAt, chamberCount}
 use Rattle.target_bin.specs.Store.{partAt}
@@ -44,23 +45,23 @@ badSections chambers store i =
     anyBelow (chamberAt chambers i .count) (outsideAt (chamberAt chambers i .whd) (partAt store i))
 
 -- 1: "a table's length breaks the numbers above"
-abbrev pub check1 : List ℕ → List ℕ → Check
-check1 chambers store = once 1 (not (lengthsOk chambers store))
+abbrev pub check1 : List ℕ → List ℕ → Check Reply
+check1 chambers store = once (reply 1 0) (not (lengthsOk chambers store))
 
 -- "2 (old counts ignored)"; the detail is the "chamber index"
-abbrev pub check2Fresh : List ℕ → Check
-check2Fresh chambers = each 2 (chamberCount chambers) (badShape chambers)
+abbrev pub check2Fresh : List ℕ → Check Reply
+check2Fresh chambers = each (reply 2) (chamberCount chambers) (badShape chambers)
 
 -- 2: "chamber id not above its predecessor, side 0 or above 65,535, count above 128"
-abbrev pub check2 : List ℕ → Check
-check2 chambers = each 2 (chamberCount chambers) (badChamber chambers)
+abbrev pub check2 : List ℕ → Check Reply
+check2 chambers = each (reply 2) (chamberCount chambers) (badChamber chambers)
 
 -- 3: the detail is the "chamber index"
-abbrev pub check3 : List ℕ → List ℕ → Check
-check3 chambers store = each 3 (chamberCount chambers) (badSections chambers store)
+abbrev pub check3 : List ℕ → List ℕ → Check Reply
+check3 chambers store = each (reply 3) (chamberCount chambers) (badSections chambers store)
 
 -- "Checks go in this order, each over the whole table before the next."
-abbrev pub tableChecks : List ℕ → List ℕ → List Check
+abbrev pub tableChecks : List ℕ → List ℕ → List (Check Reply)
 tableChecks chambers store = check1 chambers store ∷ check2 chambers ∷ check3 chambers store ∷ []
 
 -- no count is above 128

@@ -2,7 +2,7 @@
 use Prim.Native.Nat.{ℕ}
 use mathlib.Core.List.{List, [], _∷_, map}
 use Rattle.bin_section.specs.Section.{wholeSection}
-use Rattle.bin_section.specs.Replies.{reply, inOrder}
+use Rattle.replies.specs.Replies.{reply, inOrder}
 use Rattle.target_bin.specs.declared.chamber.TargetBin.{TargetBin}
 use Rattle.target_bin.specs.Chambers.{freshBin, chambersOf, tableOf}
 use Rattle.target_bin.specs.Store.{storeOf}

@@ -1,7 +1,7 @@
 -- What a job on the two tables leaves: its reply, and both tables afterwards.
 use Prim.Native.Nat.{ℕ}
 use mathlib.Core.List.{List}
-use Rattle.bin_section.specs.declared.reply.Reply.{Reply}
+use Rattle.replies.specs.declared.reply.Reply.{Reply}
 
 pub record Outcome : Type 0 where
   pub reply : Reply

@@ -8,7 +8,8 @@ use Rattle.lists.specs.Lowest.{anyBelow}
 use Rattle.lists.specs.Tab.{put}
 use Rattle.bin_section.specs.declared.section.BinSection.{BinSection}
 use Rattle.bin_section.specs.Section.{wordsOf}
-use Rattle.bin_section.specs.Replies.{Check, reply, once, each, inOrder}
+use Rattle.replies.specs.declared.reply.Reply.{Reply}
+use Rattle.replies.specs.Replies.{Check, reply, once, each, inOrder}
 use Rattle.sections.specs.Inside.{insideOf, sharesAt}
 use Rattle.target_bin.specs.declared.chamber.TargetBin.{TargetBin}
 use Rattle.target_bin.specs.Chambers.{chamberAt, chamberCount, hasId, chamberOf}
@@ -17,14 +18,14 @@ use Rattle.target_bin.specs.Checks.{tableChecks}
 use Rattle.target_bin.specs.Outcome.{Outcome, outcome, refused}
 
 -- 9: "box has a zero side or reaches past the chamber"; 10: "a free section shares a cell with the box"; 11: "128 sections are there"
-unfoldable pub pushChecks : TargetBin → List ℕ → BinSection → List Check
+unfoldable pub pushChecks : TargetBin → List ℕ → BinSection → List (Check Reply)
 pushChecks b part box =
-    once 9 (not (insideOf (b .whd) box)) ∷ each 10 (b .count) (sharesAt box part) ∷ once 11 (eqb (b .count) 128) ∷ []
+    once (reply 9 0) (not (insideOf (b .whd) box)) ∷ each (reply 10) (b .count) (sharesAt box part) ∷ once (reply 11 0) (eqb (b .count) 128) ∷ []
 
 -- 8: "no chamber has the id"; then 9, 10, 11 for the chamber that has it
-unfoldable pub returnChecks : List ℕ → List ℕ → ℕ → BinSection → List Check
+unfoldable pub returnChecks : List ℕ → List ℕ → ℕ → BinSection → List (Check Reply)
 returnChecks chambers store id box =
-    once 8 (not (anyBelow (chamberCount chambers) (hasId chambers id)))
+    once (reply 8 0) (not (anyBelow (chamberCount chambers) (hasId chambers id)))
     ∷ pushChecks (chamberAt chambers (chamberOf chambers id)) (partAt store (chamberOf chambers id)) box
 
 -- "An accepted return writes one count and the six words after the last section, nothing else", at chamber k of count n

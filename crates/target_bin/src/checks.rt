@@ -3,11 +3,11 @@ ghost use mathlib.Core.Path.{_≡_};
 ghost use Prim.Native.Nat.{_+_, _*_, _≤_};
 ghost use lib.ListN.{length};
 ghost use Rattle.lists.specs.Lowest.{lowest};
-ghost use Rattle.bin_section.specs.Replies.{reply, inOrder};
+ghost use Rattle.replies.specs.Replies.{reply, inOrder};
 ghost use Rattle.target_bin.specs.Chambers.{chamberAt, chamberCount, chamberOf};
 ghost use Rattle.target_bin.specs.Checks.{lengthsOk, idOk, shapeOk, chamberOk, badShape, badChamber, badSections, tableChecks, Counted};
 use crate::chamber::TargetBin;
-use bin_section::Reply;
+use replies::Reply;
 use sections::first_outside;
 
 // Check 1, without the placement table.

@@ -13,8 +13,8 @@ use crate::chamber::TargetBin;
 use crate::checks::first_bad_shape;
 use crate::checks::lengths_ok;
 use bin_section::BinSection;
-use bin_section::Reply;
 use bin_section::WidthHeightDepth;
+use replies::Reply;
 use sections::clear_past;
 
 // "Fresh: 1, 2 (old counts ignored)."

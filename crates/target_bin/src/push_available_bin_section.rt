@@ -4,12 +4,12 @@ ghost use Prim.Native.Nat.{_+_, _*_, _≤_};
 ghost use lib.ListN.{length};
 ghost use Rattle.lists.specs.Tab.{put};
 ghost use Rattle.bin_section.specs.Section.{wordsOf};
-ghost use Rattle.bin_section.specs.Replies.{reply, inOrder};
+ghost use Rattle.replies.specs.Replies.{reply, inOrder};
 ghost use Rattle.target_bin.specs.Return.{pushChecks};
 use crate::chamber::TargetBin;
 use bin_section::BinSection;
-use bin_section::Reply;
 use bin_section::inside;
+use replies::Reply;
 use sections::append_section;
 use sections::first_sharing;
 

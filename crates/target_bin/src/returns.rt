@@ -1,6 +1,6 @@
 // The return of a section.
 ghost use mathlib.Core.Path.{_≡_};
-ghost use Rattle.bin_section.specs.Replies.{inOrder};
+ghost use Rattle.replies.specs.Replies.{inOrder};
 ghost use Rattle.target_bin.specs.Checks.{Shaped};
 ghost use Rattle.target_bin.specs.Outcome.{outcome, refused};
 ghost use Rattle.target_bin.specs.Return.{returnChecks, returned, returnOf};
@@ -9,7 +9,7 @@ use crate::checks::check_tables;
 use crate::checks::find_chamber;
 use crate::push_available_bin_section::push_available_bin_section;
 use bin_section::BinSection;
-use bin_section::Reply;
+use replies::Reply;
 
 // "Return: 1, 2, 3, 8, 9, 10, 11."
 pub fn return_section(

@@ -16,7 +16,7 @@ use Rattle.try_place.specs.declared.Placement.the-variants.{
   PlacementTallerThanBinSection,
   PlacementDeeperThanBinSection,
 }
-use Rattle.bin_section.specs.Replies.{reply, once, inOrder}
+use Rattle.replies.specs.Replies.{reply, once, inOrder}
 use Rattle.bin_section.specs.Sides.{sideOk, sidesOk}
 use Rattle.try_place.specs.declared.Tried.{Tried}
 use Rattle.try_place.specs.Splits.{Fitting, sixSplits}
@@ -96,7 +96,7 @@ by-number :
     (cond w (refusedOf PlacementWiderThanBinSection)
     (cond h (refusedOf PlacementTallerThanBinSection) (cond d (refusedOf PlacementDeeperThanBinSection) t)))) .answer))
     0
-    ≡ inOrder (once 3 a ∷ once 4 b ∷ once 12 w ∷ once 13 h ∷ once 14 d ∷ []) (λ x. x) (reply 0 0)
+    ≡ inOrder (once (reply 3 0) a ∷ once (reply 4 0) b ∷ once (reply 12 0) w ∷ once (reply 13 0) h ∷ once (reply 14 0) d ∷ []) (λ x. x) (reply 0 0)
 unfolding inOrder
 by-number true b w h d t e = refl
 by-number false true w h d t e = refl

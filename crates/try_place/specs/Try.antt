@@ -17,7 +17,8 @@ use Rattle.try_place.specs.declared.Placement.the-variants.{
   PlacementTallerThanBinSection,
   PlacementDeeperThanBinSection,
 }
-use Rattle.bin_section.specs.Replies.{Check, once}
+use Rattle.replies.specs.declared.reply.Reply.{Reply}
+use Rattle.replies.specs.Replies.{Check, once, reply}
 use Rattle.bin_section.specs.Sides.{sides, sideOk, sidesOk}
 use Rattle.bin_section.specs.Section.{zeroSection}
 use Rattle.try_place.specs.Splits.{sixSplits}
@@ -64,13 +65,13 @@ numberOf PlacementTallerThanBinSection = 13
 numberOf PlacementDeeperThanBinSection = 14
 
 -- the same checks by their numbers, in their order: "Try: 3 (..), 4, 12, 13, 14."
-unfoldable pub tryChecks : BinSection → RectToInsert → List Check
+unfoldable pub tryChecks : BinSection → RectToInsert → List (Check Reply)
 tryChecks s r =
-    once 3 (not (sectionOk s))
-    ∷ once 4 (not (sidesOk (r .whd)))
-    ∷ once 12 (ltb (s .whd .width) (r .whd .width))
-    ∷ once 13 (ltb (s .whd .height) (r .whd .height))
-    ∷ once 14 (ltb (s .whd .depth) (r .whd .depth))
+    once (reply 3 0) (not (sectionOk s))
+    ∷ once (reply 4 0) (not (sidesOk (r .whd)))
+    ∷ once (reply 12 0) (ltb (s .whd .width) (r .whd .width))
+    ∷ once (reply 13 0) (ltb (s .whd .height) (r .whd .height))
+    ∷ once (reply 14 0) (ltb (s .whd .depth) (r .whd .depth))
     ∷ []
 
 abbrev pub zeroLocation : PackedLocation

@@ -2,7 +2,7 @@
 ghost use mathlib.Core.Path.{_≡_};
 ghost use Rattle.try_place.specs.Splits.{Fitting};
 ghost use Rattle.try_place.specs.Try.{spanOk, sectionOk, Reachable, refusedOf, placedOf, fitOf, tryOf, tryChecks, numberOf, locationOf};
-ghost use Rattle.bin_section.specs.Replies.{reply, inOrder};
+ghost use Rattle.replies.specs.Replies.{reply, inOrder};
 
 mod choice;
 mod packed_location;
@@ -10,11 +10,11 @@ mod splits;
 
 use bin_section::BinSection;
 use bin_section::RectToInsert;
-use bin_section::Reply;
 use bin_section::WidthHeightDepth;
 use bin_section::side_ok;
 use choice::choose;
 pub use packed_location::PackedLocation;
+use replies::Reply;
 use splits::six_splits;
 
 // The answer to a try. The last three are the Rust's BinSectionError.

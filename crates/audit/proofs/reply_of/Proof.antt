@@ -1,6 +1,6 @@
 use Rattle.lists.proofs.Kit.{ℕ, _+_, _/_, _≤_, _≡_, sym, ap, _∙_, true, arith, now, not-true, not-false, length, needs}
 use Rattle.bin_section.specs.Sides.{sidesOk}
-use Rattle.bin_section.specs.Replies.{reply}
+use Rattle.replies.specs.Replies.{reply}
 use Rattle.lists.proofs.Lowests.{none-of-lowest}
 use Rattle.audit.specs.Audit.{lengthsOk, auditBoxes}
 use Rattle.audit.proofs.TwoLists.{boxes-length}

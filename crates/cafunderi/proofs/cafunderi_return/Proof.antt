@@ -1,7 +1,7 @@
 use Rattle.lists.proofs.Kit.{ap, _∙_, now, needs}
 use Rattle.bin_section.specs.declared.section.BinSection.{BinSection}
 use Rattle.target_bin.specs.Return.{returnOf}
-use Rattle.target_bin.proofs.Ordering.{said}
+use Rattle.target_bin.proofs.Checking.{said}
 use Rattle.cafunderi.proofs.Faces.{return-refused, return-done}
 use Rattle.cafunderi.proofs.cafunderi_return as it
 

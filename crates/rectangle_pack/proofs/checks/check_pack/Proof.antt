@@ -1,5 +1,5 @@
 use Rattle.lists.proofs.Kit.{_≡_, sym, ap, _∙_, true, now, not-true, not-false, needs}
-use Rattle.bin_section.specs.declared.reply.Reply.{Reply}
+use Rattle.replies.specs.declared.reply.Reply.{Reply}
 use Rattle.rectangle_pack.specs.Pack.{rectLengthsOk}
 use Rattle.target_bin.proofs.Passing.{sound-tables}
 use Rattle.rectangle_pack.proofs.Checked.{pack-lengths, pack-tables, pack-rects, rect-lengths}

@@ -1,5 +1,5 @@
 use Rattle.lists.proofs.Kit.{sym, ap, _∙_, needs}
-use Rattle.bin_section.specs.declared.reply.Reply.{Reply}
+use Rattle.replies.specs.declared.reply.Reply.{Reply}
 use Rattle.rectangle_pack.proofs.Checked.{passed}
 use Rattle.rectangle_pack.proofs.Ending.{pack-refused, pack-done}
 use Rattle.rectangle_pack.proofs.packing.pack as it

@@ -1,5 +1,5 @@
 use Rattle.lists.proofs.Kit.{arith, _≡_, sym, _∙_, true, now, not-true, not-false, needs}
-use Rattle.target_bin.proofs.Ordering.{said}
+use Rattle.target_bin.proofs.Checking.{said}
 use Rattle.target_bin.specs.Checks.{lengthsOk}
 use Rattle.target_bin.specs.Outcome.{outcome}
 use Rattle.target_bin.proofs.Passing.{lengths}

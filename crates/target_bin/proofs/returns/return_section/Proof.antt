@@ -1,5 +1,5 @@
 use Rattle.lists.proofs.Kit.{sym, ap, _∙_, needs}
-use Rattle.bin_section.specs.declared.reply.Reply.{Reply}
+use Rattle.replies.specs.declared.reply.Reply.{Reply}
 use Rattle.target_bin.proofs.Passing.{sound-tables}
 use Rattle.target_bin.proofs.Returning.{return-tables, return-past}
 use Rattle.target_bin.proofs.returns.return_section as it

@@ -1,5 +1,5 @@
 use Rattle.lists.proofs.Kit.{arith, ℕ, _+_, _*_, _≤_, _<_, _≡_, ap, _∙_, List, length, needs}
-use Rattle.target_bin.proofs.Ordering.{said}
+use Rattle.target_bin.proofs.Checking.{said}
 use Rattle.target_bin.specs.declared.chamber.TargetBin.{TargetBin}
 use Rattle.target_bin.specs.Chambers.{chamberAt, chamberCount}
 use Rattle.target_bin.specs.Checks.{Shaped}

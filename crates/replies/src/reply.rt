@@ -1,6 +1,6 @@
 // The numbered replies.
 ghost use mathlib.Core.Path.{_≡_};
-ghost use Rattle.bin_section.specs.Replies.{reply};
+ghost use Rattle.replies.specs.Replies.{reply};
 
 // "Each reply is a number and a detail." It is laid out as in C: the C face returns it as cafunderi_reply.
 #[repr(C)]

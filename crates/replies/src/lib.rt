@@ -1,0 +1,4 @@
+// The numbered replies, and the checks in their order.
+mod reply;
+
+pub use reply::Reply;
