@@ -8,15 +8,14 @@ use Rattle.bin_section.specs.declared.section.BinSection.{BinSection}
 use Rattle.replies.specs.Replies.{reply, inOrder}
 use Rattle.target_bin.specs.Chambers.{chamberAt}
 use Rattle.target_bin.specs.Store.{freeOf}
-use Rattle.replies.proofs.Ladders.{answerOf, alone-passes, alone-fires}
+use Rattle.replies.proofs.Ladders.{AllPass, row-passes, alone-fires, past-all}
 use Rattle.grouped_rects_to_place.specs.Rect.{rectAt}
 use Rattle.grouped_rects_to_place.specs.Groups.{groupsOf}
 use Rattle.rectangle_pack.specs.Order.{trialOrder}
 use Rattle.rectangle_pack.specs.Packing.{state, packGroups}
-use Rattle.rectangle_pack.specs.Pack.{rectCount, packChecks, start, packing, PackOutcome, packOutcome, written, packOf}
+use Rattle.rectangle_pack.specs.Pack.{rectCount, rectChecks, packChecks, start, packing, PackOutcome, packOutcome, written, packOf}
 use Rattle.rectangle_pack.specs.Seats.{unplaced}
 use Rattle.rectangle_pack.specs.Leaning.{Tidied, GroupsPacked}
-use Rattle.rectangle_pack.proofs.Checked.{pack-numbered}
 use Rattle.rectangle_pack.proofs.Running.{all-written}
 use Rattle.rectangle_pack.proofs.Tables.{zero-placements}
 use Rattle.rectangle_pack.proofs.Tidying.{tidied-free}
@@ -38,19 +37,17 @@ packing-done c st rects p st₁ p₁ a c′ st′ p′ long tidy zeros done =
     written c (packGroups (trialOrder c) (λ k. chamberAt c k .id) (rectAt rects) (groupsOf (rectCount rects) (rectAt rects)) (state f seats)))
     (tidied-free c st st₁ tidy)
 
-module _ (c st rects p : List ℕ) (r : Reply) (e : r ≡ answerOf (packChecks c st rects p) (reply 0 0)) where
+module _ (c st rects p : List ℕ) (r : Reply) (e : r ≡ inOrder (packChecks c st rects p) (λ a. a) (reply 0 0)) where
   -- a check fires
   pub pack-refused : (r .number ≡ 0 → ⊥) → packOutcome r c st p ≡ packOf c st rects p
   unfolding packOf
-  pack-refused n =
-      ap (λ (x : Reply). packOutcome x c st p) e
-      ∙ sym (alone-fires (λ x. packOutcome x c st p) (written c (packing c st rects)) (reply 0 0) (packChecks c st rects p) refl
-      (λ z. n (ap (λ (x : Reply). x .number) e ∙ z)))
+  pack-refused n = alone-fires (λ x. x .number) (λ x. packOutcome x c st p) _ (packChecks c st rects p) (reply 0 0) r refl e n
 
   -- none does
-  pub pack-done : r .number ≡ 0 → (o : PackOutcome) → o ≡ written c (packing c st rects) → o ≡ packOf c st rects p
-  unfolding packOf
-  pack-done z o f =
-      f
-      ∙ sym (alone-passes (λ x. packOutcome x c st p) (written c (packing c st rects)) (reply 0 0) (packChecks c st rects p) (pack-numbered c st rects p)
-      (sym (ap (λ (x : Reply). x .number) e) ∙ z))
+  pub all-pass : r .number ≡ 0 → AllPass (packChecks c st rects p)
+  unfolding packChecks rectChecks
+  all-pass z = row-passes (λ x. x .number) (λ a. a) (reply 0 0) (packChecks c st rects p) r refl e z
+
+pub pack-done : (c st rects p : List ℕ) (o : PackOutcome) → AllPass (packChecks c st rects p) → o ≡ written c (packing c st rects) → o ≡ packOf c st rects p
+unfolding packOf
+pack-done c st rects p o all f = f ∙ sym (past-all _ _ (packChecks c st rects p) all)

@@ -1,18 +1,25 @@
--- Laws of checks in their order: what a first check that fires or passes leaves, and rows of checks one after the other.
-use Prim.Native.Nat.{ℕ}
+-- Laws of checks in their order, over any answer, and `checks`: the set by which `search` finds what a ladder of checks answers.
+use Prim.Native.Nat.{ℕ, _≤_, _<_}
 use mathlib.Core.Path.{_≡_, refl, sym, ap, _∙_}
 use mathlib.Core.List.{List, [], _∷_, _++_, append-nil}
-use mathlib.Core.Bool.{Bool, true, false, cond}
-use Rattle.lists.proofs.Flags.{cond-yes, cond-no}
+use mathlib.Core.Bool.{Bool, true, false, not, _&&_, cond}
+use native.Mathlib.Omega.{arith}
+use borrow.Author.Tests.{lt-ltb, le-ltb, ltb-true, ltb-false, eq-eqb, ne-eqb}
+use lib.Dec.{ltb}
+use Rattle.lists.specs.Lowest.{lowest}
+use Rattle.lists.proofs.Flags.{cond-yes, cond-no, and-first, and-second}
+use Rattle.lists.proofs.Lowests.{None, none-of-lowest, lowest-none}
 use Rattle.replies.specs.declared.reply.Reply.{Reply}
-use Rattle.replies.specs.Replies.{Check, inOrder}
+use Rattle.replies.specs.Replies.{Check, reply, inOrder}
 
-module _ {A : Type 0} (f : Reply → A) (d : A) where
-  pub fires : (c : Check Reply) (cs : List (Check Reply)) → c .fires ≡ true → inOrder (c ∷ cs) f d ≡ f (c .answer)
+-- ---- the first check
+
+module _ {A B : Type 0} (f : A → B) (d : B) where
+  pub fires : (c : Check A) (cs : List (Check A)) → c .fires ≡ true → inOrder (c ∷ cs) f d ≡ f (c .answer)
   unfolding inOrder
   fires c cs e = cond-yes (f (c .answer)) (inOrder cs f d) (c .fires) e
 
-  pub passes : (c : Check Reply) (cs : List (Check Reply)) → c .fires ≡ false → inOrder (c ∷ cs) f d ≡ inOrder cs f d
+  pub passes : (c : Check A) (cs : List (Check A)) → c .fires ≡ false → inOrder (c ∷ cs) f d ≡ inOrder cs f d
   unfolding inOrder
   passes c cs e = cond-no (f (c .answer)) (inOrder cs f d) (c .fires) e
 
@@ -20,71 +27,85 @@ module _ {A : Type 0} (f : Reply → A) (d : A) where
   unfolding inOrder
   all-done = refl
 
--- no check of the row answers 0
-pub data Numbered : List (Check Reply) → Type 0 where
-  none : Numbered []
-  more : {c : Check Reply} {cs : List (Check Reply)} → (c .answer .number ≡ 0 → ⊥) → Numbered cs → Numbered (c ∷ cs)
+-- the code's test is the check's
+pub not-as : (r x b : Bool) → r ≡ x → not r ≡ b → not x ≡ b
+not-as r x b e h = ap not (sym e) ∙ h
 
--- the answer of a row, r where none of it fires
-abbrev pub answerOf : List (Check Reply) → Reply → Reply
-answerOf cs r = inOrder cs (λ a. a) r
+-- the lowest faulty index, as the code found it, below the number of entries or not
+module _ (n m r : ℕ) (f : ℕ → Bool) (all : n ≡ m) (e : r ≡ lowest n f) where
+  pub found-at : r < m → ltb (lowest n f) n ≡ true
+  found-at h = lt-ltb (lowest n f) n (omega arith)
 
--- a row that answers 0: its first check passes, and the rest answers 0
-pub first-passes : (c : Check Reply) (cs : List (Check Reply)) (r : Reply) → Numbered (c ∷ cs) → answerOf (c ∷ cs) r .number ≡ 0 → c .fires ≡ false
-first-passes c cs r (more ne rest) z = go (c .fires) refl
-  where
-    go : (b : Bool) → c .fires ≡ b → c .fires ≡ false
-    go true e = absurd (ne (sym (ap (λ (a : Reply). a .number) (fires (λ a. a) r c cs e)) ∙ z))
-    go false e = e
+  pub none-at : m ≤ r → ltb (lowest n f) n ≡ false
+  none-at h = le-ltb (lowest n f) n (omega arith)
 
-pub rest-passes : (c : Check Reply) (cs : List (Check Reply)) (r : Reply) → Numbered (c ∷ cs) → answerOf (c ∷ cs) r .number ≡ 0 → answerOf cs r .number ≡ 0
-rest-passes c cs r n z =
-    sym (ap (λ (a : Reply). a .number) (passes (λ a. a) r c cs (first-passes c cs r n z))) ∙ z
+  pub none-found : m ≤ r → None n f
+  none-found h = none-of-lowest n f (omega arith)
+
+-- a check of each entry that does not fire
+pub no-fault : (n : ℕ) (f : ℕ → Bool) → ltb (lowest n f) n ≡ false → None n f
+no-fault n f e = none-of-lowest n f (ltb-false (lowest n f) n e)
+
+pub none-passes : (n : ℕ) (f : ℕ → Bool) → None n f → ltb (lowest n f) n ≡ false
+none-passes n f p = le-ltb (lowest n f) n (omega (arith, lowest-none n f p))
+
+pub answered : (x : Reply) (k a b : ℕ) → x ≡ reply k a → a ≡ b → x ≡ reply k b
+answered x k a b e h = e ∙ ap (reply k) h
+
+pub ruleset checks = (fires, passes, all-done, not-as, found-at, none-at, eq-eqb, ne-eqb, answered)
+
+-- ---- a row of checks, of which the code knows the answer alone: 0 where none fires
 
 -- every check of the row passes
-pub data AllPass : List (Check Reply) → Type 0 where
-  no-more : AllPass []
-  and : {c : Check Reply} {cs : List (Check Reply)} → c .fires ≡ false → AllPass cs → AllPass (c ∷ cs)
+abbrev pub AllPass : {A : Type 0} → List (Check A) → Type 0
+AllPass [] = Unit
+AllPass (c ∷ cs) = (c .fires ≡ false) × AllPass cs
 
-pub all-pass : (cs : List (Check Reply)) (r : Reply) → Numbered cs → answerOf cs r .number ≡ 0 → AllPass cs
-all-pass [] r n z = no-more
-all-pass (c ∷ cs) r (more ne n) z =
-    and (first-passes c cs r (more ne n) z) (all-pass cs r n (rest-passes c cs r (more ne n) z))
+-- no check of the row answers 0, by the number of an answer. It is so by computing: each check names its number.
+abbrev pub numbered : {A : Type 0} → (A → ℕ) → List (Check A) → Bool
+numbered number [] = true
+numbered number (c ∷ cs) = ltb 0 (number (c .answer)) && numbered number cs
 
--- a part of what is decided is decided by the same checks
-pub in-map : {A B : Type 0} (g : A → B) (f : Reply → A) (d : A) (cs : List (Check Reply)) → g (inOrder cs f d) ≡ inOrder cs (λ r. g (f r)) (g d)
-unfolding inOrder
-in-map g f d [] = refl
-in-map g f d (c ∷ cs) = go (in-map g f d cs) (c .fires)
-  where
-    go : g (inOrder cs f d) ≡ inOrder cs (λ r. g (f r)) (g d) → (b : Bool) → g (cond b (f (c .answer)) (inOrder cs f d)) ≡ cond b (g (f (c .answer))) (inOrder cs (λ r. g (f r)) (g d))
-    go rest true = refl
-    go rest false = rest
-
-module _ {A : Type 0} (f : Reply → A) (d : A) (r : Reply) where
-  -- the row answers 0: what comes after it decides
-  pub row-passes : (cs ds : List (Check Reply)) → Numbered cs → answerOf cs r .number ≡ 0 → inOrder (cs ++ ds) f d ≡ inOrder ds f d
-  row-passes [] ds n z = refl
-  row-passes (c ∷ cs) ds (more ne n) z =
-      passes f d c (cs ++ ds) (first-passes c cs r (more ne n) z)
-      ∙ row-passes cs ds n (rest-passes c cs r (more ne n) z)
-
-  -- the row answers another number: that is the answer
-  pub row-fires : (cs ds : List (Check Reply)) → r .number ≡ 0 → (answerOf cs r .number ≡ 0 → ⊥) → inOrder (cs ++ ds) f d ≡ f (answerOf cs r)
-  unfolding inOrder
-  row-fires [] ds z ne = absurd (ne z)
-  row-fires (c ∷ cs) ds z ne = go (row-fires cs ds z) (c .fires) refl
+-- a row that ends with 0: each of its checks passes
+module _ {A B : Type 0} (number : B → ℕ) (f : A → B) (d : B) where
+  pub row-passes : (cs : List (Check A)) (t : B) → numbered (λ a. number (f a)) cs ≡ true → t ≡ inOrder cs f d → number t ≡ 0 → AllPass cs
+  row-passes [] t n e z = tt
+  row-passes (c ∷ cs) t n e z = go (row-passes cs t (and-second (ltb 0 (number (f (c .answer)))) (numbered (λ a. number (f a)) cs) n)) (c .fires) refl
     where
-      go : ((answerOf cs r .number ≡ 0 → ⊥) → inOrder (cs ++ ds) f d ≡ f (answerOf cs r)) → (b : Bool) → c .fires ≡ b → inOrder (c ∷ (cs ++ ds)) f d ≡ f (answerOf (c ∷ cs) r)
-      go rest true e = fires f d c (cs ++ ds) e ∙ ap f (sym (fires (λ a. a) r c cs e))
-      go rest false e =
-          let p : answerOf (c ∷ cs) r ≡ answerOf cs r = passes (λ a. a) r c cs e in
-          passes f d c (cs ++ ds) e
-          ∙ rest (λ y. ne (ap (λ (a : Reply). a .number) p ∙ y))
-          ∙ ap f (sym p)
+      go : (t ≡ inOrder cs f d → number t ≡ 0 → AllPass cs) → (b : Bool) → c .fires ≡ b → AllPass (c ∷ cs)
+      go rest true p =
+          let q : 0 < number (f (c .answer)) = ltb-true _ _ (and-first (ltb 0 (number (f (c .answer)))) (numbered (λ a. number (f a)) cs) n) in
+          absurd (omega (arith, ap number (e ∙ fires f d c cs p)))
+      go rest false p = (p, rest (e ∙ passes f d c cs p) z)
 
-  pub alone-passes : (cs : List (Check Reply)) → Numbered cs → answerOf cs r .number ≡ 0 → inOrder cs f d ≡ d
-  alone-passes cs n z = ap (λ (l : List (Check Reply)). inOrder l f d) (sym (append-nil cs)) ∙ row-passes cs [] n z ∙ all-done f d
+-- a row that answers another number: that is the answer, whatever comes after it
+module _ {A B : Type 0} (number : A → ℕ) (f : A → B) (d : B) where
+  pub row-fires : (cs ds : List (Check A)) (r t : A) → number r ≡ 0 → t ≡ inOrder cs (λ a. a) r → (number t ≡ 0 → ⊥) → f t ≡ inOrder (cs ++ ds) f d
+  row-fires [] ds r t z e ne = absurd (ne (ap number (e ∙ all-done (λ a. a) r) ∙ z))
+  row-fires (c ∷ cs) ds r t z e ne = go (row-fires cs ds r t z) (c .fires) refl
+    where
+      go : (t ≡ inOrder cs (λ a. a) r → (number t ≡ 0 → ⊥) → f t ≡ inOrder (cs ++ ds) f d) → (b : Bool) → c .fires ≡ b → f t ≡ inOrder (c ∷ (cs ++ ds)) f d
+      go rest true p = ap f (e ∙ fires (λ a. a) r c cs p) ∙ sym (fires f d c (cs ++ ds) p)
+      go rest false p = rest (e ∙ passes (λ a. a) r c cs p) ne ∙ sym (passes f d c (cs ++ ds) p)
 
-  pub alone-fires : (cs : List (Check Reply)) → r .number ≡ 0 → (answerOf cs r .number ≡ 0 → ⊥) → inOrder cs f d ≡ f (answerOf cs r)
-  alone-fires cs z ne = ap (λ (l : List (Check Reply)). inOrder l f d) (sym (append-nil cs)) ∙ row-fires cs [] z ne
+  pub alone-fires : (cs : List (Check A)) (r t : A) → number r ≡ 0 → t ≡ inOrder cs (λ a. a) r → (number t ≡ 0 → ⊥) → f t ≡ inOrder cs f d
+  alone-fires cs r t z e ne = row-fires cs [] r t z e ne ∙ ap (λ (l : List (Check A)). inOrder l f d) (append-nil cs)
+
+module _ {A B : Type 0} (f : A → B) (d : B) where
+  -- what comes after a row that passes decides
+  pub past : (cs ds : List (Check A)) → AllPass cs → inOrder (cs ++ ds) f d ≡ inOrder ds f d
+  past [] ds p = refl
+  past (c ∷ cs) ds p = passes f d c (cs ++ ds) (p .0) ∙ past cs ds (p .1)
+
+  pub past-all : (cs : List (Check A)) → AllPass cs → inOrder cs f d ≡ d
+  past-all cs p = ap (λ (l : List (Check A)). inOrder l f d) (sym (append-nil cs)) ∙ past cs [] p ∙ all-done f d
+
+  -- a part of what is decided is decided by the same checks
+  pub in-map : {C : Type 0} (g : B → C) (cs : List (Check A)) → g (inOrder cs f d) ≡ inOrder cs (λ r. g (f r)) (g d)
+  unfolding inOrder
+  in-map g [] = refl
+  in-map g (c ∷ cs) = go (in-map g cs) (c .fires)
+    where
+      go : g (inOrder cs f d) ≡ inOrder cs (λ r. g (f r)) (g d) → (b : Bool) → g (cond b (f (c .answer)) (inOrder cs f d)) ≡ cond b (g (f (c .answer))) (inOrder cs (λ r. g (f r)) (g d))
+      go rest true = refl
+      go rest false = rest

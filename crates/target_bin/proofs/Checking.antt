@@ -20,7 +20,6 @@ use Rattle.target_bin.specs.Outcome.{outcome}
 use Rattle.target_bin.specs.Store.{partAt}
 use Rattle.target_bin.specs.Checks.{lengthsOk, idOk, badChamber, badSections, check1, check2, check3, tableChecks}
 use Rattle.target_bin.proofs.Parts.{lent-part}
-use Rattle.replies.proofs.Ladders.{fires, passes, all-done, answerOf}
 
 -- ---- 1: a table's length
 module _ (chambers store : List ℕ) where
@@ -55,48 +54,6 @@ bad-is chambers store i r b read found =
     ∙ sym (any-lowest (b .count) (outsideAt (b .whd) (partAt store i))) in
     q ∙ rw read
 
--- ---- the three in their order
-
--- a loop that passed every entry
-pub none-found : (n r : ℕ) (f : ℕ → Bool) → r ≡ lowest n f → n ≤ r → None n f
-none-found n r f e h = none-of-lowest n f (omega arith)
-
--- a check of each entry that fires, and one that does not
-pub found-fires : (n r : ℕ) (f : ℕ → Bool) → r ≡ lowest n f → r < n → ltb (lowest n f) n ≡ true
-found-fires n r f e h = lt-ltb (lowest n f) n (omega arith)
-
-pub found-passes : (n r : ℕ) (f : ℕ → Bool) → r ≡ lowest n f → n ≤ r → ltb (lowest n f) n ≡ false
-found-passes n r f e h = le-ltb (lowest n f) n (omega arith)
-
-module _ (chambers store : List ℕ) where
-  pub tables-lengths : lengthsOk chambers store ≡ false → reply 1 0 ≡ answerOf (tableChecks chambers store) (reply 0 0)
-  tables-lengths e =
-      sym (fires (λ a. a) (reply 0 0) (check1 chambers store) (check2 chambers ∷ check3 chambers store ∷ []) (ap not e))
-
-  module _ (ok : lengthsOk chambers store ≡ true) where
-    past1 : answerOf (tableChecks chambers store) (reply 0 0) ≡ answerOf (check2 chambers ∷ check3 chambers store ∷ []) (reply 0 0)
-    past1 = passes (λ a. a) (reply 0 0) (check1 chambers store) (check2 chambers ∷ check3 chambers store ∷ []) (ap not ok)
-
-    pub tables-chamber : (r : ℕ) → r ≡ lowest (chamberCount chambers) (badChamber chambers) → r < chamberCount chambers → reply 2 r ≡ answerOf (tableChecks chambers store) (reply 0 0)
-    tables-chamber r e h =
-        ap (reply 2) e
-        ∙ sym (past1 ∙ fires (λ a. a) (reply 0 0) (check2 chambers) (check3 chambers store ∷ []) (found-fires _ r (badChamber chambers) e h))
-
-    module _ (r : ℕ) (e : r ≡ lowest (chamberCount chambers) (badChamber chambers)) (h : chamberCount chambers ≤ r) where
-      past2 : answerOf (tableChecks chambers store) (reply 0 0) ≡ answerOf (check3 chambers store ∷ []) (reply 0 0)
-      past2 =
-          past1 ∙ passes (λ a. a) (reply 0 0) (check2 chambers) (check3 chambers store ∷ []) (found-passes _ r (badChamber chambers) e h)
-
-      pub tables-section : (q : ℕ) → q ≡ lowest (chamberCount chambers) (badSections chambers store) → q < chamberCount chambers → reply 3 q ≡ answerOf (tableChecks chambers store) (reply 0 0)
-      tables-section q e′ h′ =
-          ap (reply 3) e′ ∙ sym (past2 ∙ fires (λ a. a) (reply 0 0) (check3 chambers store) [] (found-fires _ q (badSections chambers store) e′ h′))
-
-      pub tables-pass : (q : ℕ) → q ≡ lowest (chamberCount chambers) (badSections chambers store) → chamberCount chambers ≤ q → reply 0 0 ≡ answerOf (tableChecks chambers store) (reply 0 0)
-      tables-pass q e′ h′ =
-          sym (past2
-          ∙ passes (λ a. a) (reply 0 0) (check3 chambers store) [] (found-passes _ q (badSections chambers store) e′ h′)
-          ∙ all-done (λ a. a) (reply 0 0))
-
--- an outcome by its reply
-pub said : {r r′ : Reply} (chambers store : List ℕ) → r ≡ r′ → outcome r chambers store ≡ outcome r′ chambers store
-said chambers store e = ap (λ (r : Reply). outcome r chambers store) e
+-- an outcome by its parts
+pub outcome-is : (r r′ : Reply) (c c′ s s′ : List ℕ) → r ≡ r′ → c ≡ c′ → s ≡ s′ → outcome r c s ≡ outcome r′ c′ s′
+outcome-is r r′ c c′ s s′ p q e = rw (p, q, e)

@@ -23,8 +23,6 @@ use Rattle.target_bin.specs.Store.{partOf, storeOf}
 use Rattle.target_bin.specs.Checks.{lengthsOk, badShape, check1, check2Fresh}
 use Rattle.target_bin.specs.Outcome.{Outcome, outcome, refused}
 use Rattle.target_bin.specs.Fresh.{freshened, freshTable, freshStore, freshOf}
-use Rattle.replies.proofs.Ladders.{fires, passes, all-done}
-use Rattle.target_bin.proofs.Checking.{found-fires, found-passes}
 use Rattle.target_bin.proofs.Tables.{chamberAt-ext}
 use Rattle.target_bin.proofs.Parts.{length-partOf}
 
@@ -135,28 +133,3 @@ freshly-all c₀ s₀ c s i f h long-c long-s =
       f .table ∙ ap (partly (λ b. binWords b) (freshAt c₀) 5 c₀) e ∙ partly-all (λ b. binWords b) (freshAt c₀) 5 c₀ (chamberCount c₀) long-c ∙ sym (fresh-table c₀),
       f .parts ∙ ap (partly partOf (wholeAt c₀) 768 s₀) e ∙ partly-all partOf (wholeAt c₀) 768 s₀ (chamberCount c₀) long-s ∙ sym (fresh-store c₀),
     )
-
--- ---- the checks of fresh
-
-module _ (chambers store : List ℕ) where
-  done : Outcome
-  done = outcome (reply 0 0) (freshTable chambers) (freshStore chambers)
-
-  pub fresh-lengths : lengthsOk chambers store ≡ false → outcome (reply 1 0) chambers store ≡ freshOf chambers store
-  unfolding freshOf done
-  fresh-lengths e = sym (fires (refused chambers store) done (check1 chambers store) (check2Fresh chambers ∷ []) (ap not e))
-
-  module _ (ok : lengthsOk chambers store ≡ true) where
-    pub fresh-shape : (r : ℕ) → r ≡ lowest (chamberCount chambers) (badShape chambers) → r < chamberCount chambers → outcome (reply 2 r) chambers store ≡ freshOf chambers store
-    unfolding freshOf done
-    fresh-shape r e h =
-        ap (λ (x : ℕ). outcome (reply 2 x) chambers store) e
-        ∙ sym (passes (refused chambers store) done (check1 chambers store) (check2Fresh chambers ∷ []) (ap not ok)
-        ∙ fires (refused chambers store) done (check2Fresh chambers) [] (found-fires _ r (badShape chambers) e h))
-
-    pub fresh-done : (r : ℕ) → r ≡ lowest (chamberCount chambers) (badShape chambers) → chamberCount chambers ≤ r → outcome (reply 0 0) (freshTable chambers) (freshStore chambers) ≡ freshOf chambers store
-    unfolding freshOf done
-    fresh-done r e h =
-        sym (passes (refused chambers store) done (check1 chambers store) (check2Fresh chambers ∷ []) (ap not ok)
-        ∙ passes (refused chambers store) done (check2Fresh chambers) [] (found-passes _ r (badShape chambers) e h)
-        ∙ all-done (refused chambers store) done)

@@ -15,15 +15,15 @@ use Rattle.bin_section.specs.declared.width_height_depth.WidthHeightDepth.{Widt
 use Rattle.replies.specs.declared.reply.Reply.{Reply}
 use Rattle.bin_section.specs.Sides.{sideOk, sidesOk}
 use Rattle.bin_section.specs.Section.{sectionAt}
-use Rattle.replies.specs.Replies.{reply, each}
+use Rattle.replies.specs.Replies.{reply, inOrder}
 use Rattle.sections.specs.Inside.{outsideAt}
 use Rattle.bin_section.specs.Inside.{Inside}
 use Rattle.bin_section.proofs.Bounding.{inside→, →inside}
 use Rattle.target_bin.specs.Chambers.{chamberAt, chamberCount}
 use Rattle.target_bin.specs.Store.{partAt}
 use Rattle.target_bin.specs.Checks.{lengthsOk, idOk, shapeOk, chamberOk, badShape, badChamber, badSections, check1, check2, check3, tableChecks, Counted, Shaped}
-use Rattle.target_bin.proofs.Checking.{lengths-store, tables-pass}
-use Rattle.replies.proofs.Ladders.{Numbered, none, more, answerOf, first-passes, rest-passes}
+use Rattle.target_bin.proofs.Checking.{lengths-store}
+use Rattle.replies.proofs.Ladders.{AllPass, row-passes, no-fault, none-passes}
 
 -- 1
 pub record Lengths (chambers store : List ℕ) : Type 0 where
@@ -119,10 +119,6 @@ pub record Sound (chambers store : List ℕ) : Type 0 where
   pub shapes-ok : ShapesSound chambers
   pub all-in : AllInside chambers store
 
--- a check of each entry that does not fire
-pub no-fault : (n : ℕ) (f : ℕ → Bool) → ltb (lowest n f) n ≡ false → None n f
-no-fault n f e = none-of-lowest n f (ltb-false (lowest n f) n e)
-
 pub shaped-from : (chambers store : List ℕ) → Lengths chambers store → Counted chambers → Shaped chambers store
 shaped-from chambers store l c = record { few = l .few; whole = l .whole; long = l .long; counted = c }
 
@@ -133,10 +129,6 @@ sound chambers store t p q =
       shapes-ok = shapes-sound chambers (shapes chambers p);
       all-in = all-inside chambers store q;
     }
-
-pub numbered : (chambers store : List ℕ) → Numbered (tableChecks chambers store)
-numbered chambers store =
-    more (λ (e : _≡_ {A = ℕ} 1 0). omega arith) (more (λ (e : _≡_ {A = ℕ} 2 0). omega arith) (more (λ (e : _≡_ {A = ℕ} 3 0). omega arith) none))
 
 -- ---- the other way round: sound tables pass
 
@@ -172,34 +164,17 @@ unfolding badSections
     none-any (chamberAt chambers i .count) (outsideAt (chamberAt chambers i .whd) (partAt store i))
     (record { at = λ j b. ap not (→inside (chamberAt chambers i .whd) (sectionAt (partAt store i) j) (h .inside i j l b)) })
 
-module _ (chambers store : List ℕ) where
-  pub tables-sound : Sound chambers store → answerOf (tableChecks chambers store) (reply 0 0) ≡ reply 0 0
-  tables-sound h =
-      let l : Lengths chambers store = record { few = h .shaped .few; whole = h .shaped .whole; long = h .shaped .long } in
-      let p : lowest (chamberCount chambers) (badChamber chambers) ≡ chamberCount chambers =
-      lowest-none (chamberCount chambers) (badChamber chambers)
-      (record { at = λ i b. ap not (→chamber chambers i (h .shapes-ok) (h .shaped .counted .counts i b) b) }) in
-      let q : lowest (chamberCount chambers) (badSections chambers store) ≡ chamberCount chambers =
-      lowest-none (chamberCount chambers) (badSections chambers store) (record { at = λ i b. →sections chambers store i (h .all-in) b }) in
-      sym (tables-pass chambers store (→lengths chambers store l) _ refl (omega arith) _ refl (omega arith))
-
--- where the three checks answer 0 the tables are sound
-pub sound-tables : (chambers store : List ℕ) → answerOf (tableChecks chambers store) (reply 0 0) .number ≡ 0 → Sound chambers store
-sound-tables chambers store z =
-    let c1 = check1 chambers store in
-    let c2 = check2 chambers in
-    let c3 = check3 chambers store in
-    let r = reply 0 0 in
-    let z1 = rest-passes c1 (c2 ∷ c3 ∷ []) r (numbered chambers store) z in
-    let n3 : Numbered (c3 ∷ []) = more (λ (e : _≡_ {A = ℕ} 3 0). omega arith) none in
-    let n2 : Numbered (c2 ∷ c3 ∷ []) = more (λ (e : _≡_ {A = ℕ} 2 0). omega arith) n3 in
-    let z2 = rest-passes c2 (c3 ∷ []) r n2 z1 in
-    sound chambers store
-    (not-false (lengthsOk chambers store) (first-passes c1 (c2 ∷ c3 ∷ []) r (numbered chambers store) z))
-    (no-fault (chamberCount chambers) (badChamber chambers) (first-passes c2 (c3 ∷ []) r n2 z1))
-    (no-fault (chamberCount chambers) (badSections chambers store) (first-passes c3 [] r n3 z2))
-
 -- checks 1 to 3 pass exactly where the tables are sound
-pub tables-exact : (chambers store : List ℕ) → (answerOf (tableChecks chambers store) (reply 0 0) ≡ reply 0 0) ↔ Sound chambers store
-tables-exact chambers store =
-    (λ e. sound-tables chambers store (ap (λ (r : Reply). r .number) e), tables-sound chambers store)
+pub tables-pass : (chambers store : List ℕ) → Sound chambers store → AllPass (tableChecks chambers store)
+tables-pass chambers store h =
+    let p1 = ap not (→lengths chambers store (record { few = h .shaped .few; whole = h .shaped .whole; long = h .shaped .long })) in
+    let p2 = none-passes _ _ (record { at = λ i b. ap not (→chamber chambers i (h .shapes-ok) (h .shaped .counted .counts i b) b) }) in
+    let p3 = none-passes _ _ (record { at = λ i b. →sections chambers store i (h .all-in) b }) in
+    (p1, (p2, (p3, tt)))
+
+pub tables-sound : (chambers store : List ℕ) → AllPass (tableChecks chambers store) → Sound chambers store
+tables-sound chambers store p = sound chambers store (not-false _ (p .0)) (no-fault _ _ (p .1 .0)) (no-fault _ _ (p .1 .1 .0))
+
+-- where the code finds that they answer 0
+pub sound-tables : (chambers store : List ℕ) (t : Reply) → t ≡ inOrder (tableChecks chambers store) (λ a. a) (reply 0 0) → t .number ≡ 0 → Sound chambers store
+sound-tables chambers store t e z = tables-sound chambers store (row-passes (λ r. r .number) (λ a. a) (reply 0 0) (tableChecks chambers store) t refl e z)

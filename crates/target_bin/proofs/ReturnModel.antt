@@ -35,10 +35,10 @@ use Rattle.target_bin.specs.Lending.{OnlyIn}
 use Rattle.target_bin.specs.Checks.{badChamber, badSections, check1, check2, check3, tableChecks}
 use Rattle.target_bin.specs.Outcome.{Outcome, outcome, refused}
 use Rattle.target_bin.specs.Return.{pushChecks, returnChecks, stored, returned, returnOf}
-use Rattle.replies.proofs.Ladders.{Numbered, none, more, answerOf, AllPass, and, no-more, all-pass, in-map, alone-passes, alone-fires, passes, all-done, row-passes}
+use Rattle.replies.proofs.Ladders.{row-passes, alone-fires, past, past-all, in-map, no-fault, none-passes}
 use Rattle.target_bin.proofs.Tables.{chamberAt-set-same, chamberAt-set-other, chambers-set}
 use Rattle.target_bin.proofs.Parts.{length-partAt, partAt-put-same, only-in, free-set}
-use Rattle.target_bin.proofs.Passing.{Sound, no-fault, sound, numbered, tables-sound}
+use Rattle.target_bin.proofs.Passing.{Sound, tables-pass, tables-sound}
 use Rattle.target_bin.proofs.Putting.{put-in-part}
 
 -- ---- an accepted return
@@ -172,54 +172,9 @@ module _ (chambers store : List ℕ) (id : ℕ) (box : BinSection) where
     pub apart : (j : ℕ) → j < chamberAt chambers (chamberOf chambers id) .count → SharesCell (sectionAt (partAt store (chamberOf chambers id)) j) box → ⊥
     pub room : chamberAt chambers (chamberOf chambers id) .count < 128
 
-  c8 : Check Reply
-  c8 = once (reply 8 0) (not (anyBelow (chamberCount chambers) (hasId chambers id)))
-
-  c9 : Check Reply
-  c9 = once (reply 9 0) (not (insideOf (there .whd) box))
-
-  c10 : Check Reply
-  c10 = each (reply 10) (there .count) (sharesAt box (partAt store here))
-
-  c11 : Check Reply
-  c11 = once (reply 11 0) (eqb (there .count) 128)
-
-  row : List (Check Reply)
-  row = check1 chambers store ∷ check2 chambers ∷ check3 chambers store ∷ c8 ∷ c9 ∷ c10 ∷ c11 ∷ []
-
-  row-numbered : Numbered row
-  unfolding row c8 c9 c10 c11
-  row-numbered =
-      more (λ (e : _≡_ {A = ℕ} 1 0). omega arith) (more (λ (e : _≡_ {A = ℕ} 2 0). omega arith)
-      (more (λ (e : _≡_ {A = ℕ} 3 0). omega arith) (more (λ (e : _≡_ {A = ℕ} 8 0). omega arith)
-      (more (λ (e : _≡_ {A = ℕ} 9 0). omega arith) (more (λ (e : _≡_ {A = ℕ} 10 0). omega arith)
-      (more (λ (e : _≡_ {A = ℕ} 11 0). omega arith) none))))))
-
-  row-of : returnOf chambers store id box ≡ inOrder row (refused chambers store) (stored chambers store here (there .count) box)
-  unfolding returnOf returned returnChecks pushChecks row c8 c9 c10 c11
-  row-of = refl
-
-  row-answer : returnOf chambers store id box .reply ≡ answerOf row (reply 0 (there .count))
-  row-answer = ap (λ (o : Outcome). o .reply) row-of ∙ in-map (λ o. o .reply) (refused chambers store) (stored chambers store here (there .count) box) row
-
-  from-row : AllPass row → Accepted
-  unfolding row c8 c9 c10 c11 chamberOf
-  from-row (and p1 (and p2 (and p3 (and p8 (and p9 (and p10 (and p11 no-more))))))) =
-      let s : Sound chambers store =
-      sound chambers store (not-false _ p1) (no-fault (chamberCount chambers) (badChamber chambers) p2) (no-fault (chamberCount chambers) (badSections chambers store) p3) in
-      let k : lowest (chamberCount chambers) (hasId chambers id) < chamberCount chambers =
-      ltb-true _ _ (sym (any-lowest (chamberCount chambers) (hasId chambers id)) ∙ not-false _ p8) in
-      let full : there .count ≡ 128 → ⊥ = eqb-false (there .count) 128 p11 in
-      record {
-        sound-before = s;
-        known = k;
-        named = eqb-true _ _ (lowest-fires (chamberCount chambers) (hasId chambers id) k);
-        box-in = inside→ (there .whd) box (not-false _ p9);
-        apart = λ j l h.
-            true-false
-            (sym (shares→overlaps (sectionAt (partAt store here) j) box h) ∙ no-fault (there .count) (sharesAt box (partAt store here)) p10 .at j l);
-        room = omega (arith, full, s .shaped .counted .counts here k);
-      }
+  -- all its checks
+  abbrev row : List (Check Reply)
+  row = tableChecks chambers store ++ returnChecks chambers store id box
 
   known-fires : chamberOf chambers id < chamberCount chambers → anyBelow (chamberCount chambers) (hasId chambers id) ≡ true
   unfolding chamberOf
@@ -234,35 +189,45 @@ module _ (chambers store : List ℕ) (id : ℕ) (box : BinSection) where
 
   -- what an accepted return leaves
   pub return-result : Accepted → returnOf chambers store id box ≡ stored chambers store (chamberOf chambers id) (chamberAt chambers (chamberOf chambers id) .count) box
-  unfolding returnOf returned returnChecks pushChecks c8 c9 c10 c11
+  unfolding returnOf returned returnChecks pushChecks
   return-result a =
-      let f = refused chambers store in
-      let d = stored chambers store here (there .count) box in
-      let none-shares : lowest (there .count) (sharesAt box (partAt store here)) ≡ there .count =
-      lowest-none (there .count) (sharesAt box (partAt store here)) (record { at = λ j l. apart-passes j (a .apart j l) }) in
-      row-passes f d (reply 0 0) (tableChecks chambers store) (c8 ∷ c9 ∷ c10 ∷ c11 ∷ []) (numbered chambers store)
-      (ap (λ (r : Reply). r .number) (tables-sound chambers store (a .sound-before)))
-      ∙ passes f d c8 (c9 ∷ c10 ∷ c11 ∷ []) (ap not (known-fires (a .known)))
-      ∙ passes f d c9 (c10 ∷ c11 ∷ []) (ap not (→inside (there .whd) box (a .box-in)))
-      ∙ passes f d c10 (c11 ∷ []) (le-ltb (lowest (there .count) (sharesAt box (partAt store here))) (there .count) (omega arith))
-      ∙ passes f d c11 [] (ne-eqb (there .count) 128 (λ e. omega (arith, a .room)))
-      ∙ all-done f d
+      let p8 = ap not (known-fires (a .known)) in
+      let p9 = ap not (→inside (there .whd) box (a .box-in)) in
+      let p10 = none-passes _ _ (record { at = λ j l. apart-passes j (a .apart j l) }) in
+      let p11 = ne-eqb (there .count) 128 (λ e. omega (arith, a .room)) in
+      past _ _ (tableChecks chambers store) _ (tables-pass chambers store (a .sound-before))
+      ∙ past-all _ _ (returnChecks chambers store id box) (p8, (p9, (p10, (p11, tt))))
 
   -- reply 0 is given exactly there
   pub return-done : returnOf chambers store id box .reply .number ≡ 0 → Accepted
+  unfolding returnOf returnChecks pushChecks chamberOf
   return-done z =
-      from-row (all-pass row (reply 0 (there .count)) row-numbered (sym (ap (λ (r : Reply). r .number) row-answer) ∙ z))
+      let p = row-passes (λ o. o .reply .number) (refused chambers store) (returned chambers store id box) row _ refl refl z in
+      let s : Sound chambers store = tables-sound chambers store (p .0, (p .1 .0, (p .1 .1 .0, tt))) in
+      let r = p .1 .1 .1 in
+      let k : lowest (chamberCount chambers) (hasId chambers id) < chamberCount chambers =
+      ltb-true _ _ (sym (any-lowest (chamberCount chambers) (hasId chambers id)) ∙ not-false _ (r .0)) in
+      let full : there .count ≡ 128 → ⊥ = eqb-false (there .count) 128 (r .1 .1 .1 .0) in
+      record {
+        sound-before = s;
+        known = k;
+        named = eqb-true _ _ (lowest-fires (chamberCount chambers) (hasId chambers id) k);
+        box-in = inside→ (there .whd) box (not-false _ (r .1 .0));
+        apart = λ j l h.
+            true-false
+            (sym (shares→overlaps (sectionAt (partAt store here) j) box h) ∙ no-fault (there .count) (sharesAt box (partAt store here)) (r .1 .1 .0) .at j l);
+        room = omega (arith, full, s .shaped .counted .counts here k);
+      }
 
   pub return-exact : (returnOf chambers store id box .reply .number ≡ 0) ↔ Accepted
   return-exact = (return-done, λ a. ap (λ (o : Outcome). o .reply .number) (return-result a))
 
   -- any other reply leaves both tables as they were
   pub return-refusal : (returnOf chambers store id box .reply .number ≡ 0 → ⊥) → returnOf chambers store id box ≡ outcome (returnOf chambers store id box .reply) chambers store
+  unfolding returnOf returned
   return-refusal ne =
-      row-of
-      ∙ alone-fires (refused chambers store) (stored chambers store here (there .count) box) (reply 0 (there .count)) row refl
-      (λ z. ne (ap (λ (r : Reply). r .number) row-answer ∙ z))
-      ∙ ap (refused chambers store) (sym row-answer)
+      sym (alone-fires (λ r. r .number) (refused chambers store) _ row (reply 0 (there .count)) _ refl
+      (in-map (refused chambers store) (returned chambers store id box) (λ o. o .reply) row) ne)
 
   -- after an accepted return: the chambers, their free sections, and that the tables are sound
   pub return-chambers : Accepted → chambersOf (returnOf chambers store id box .chambers) ≡ set (chambersOf chambers) (chamberOf chambers id) (bin (chamberAt chambers (chamberOf chambers id) .id) (chamberAt chambers (chamberOf chambers id) .whd) (chamberAt chambers (chamberOf chambers id) .count + 1))

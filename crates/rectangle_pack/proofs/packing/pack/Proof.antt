@@ -1,14 +1,13 @@
-use Rattle.lists.proofs.Kit.{sym, ap, _∙_, needs}
-use Rattle.replies.specs.declared.reply.Reply.{Reply}
+use Rattle.lists.proofs.Kit.{needs}
 use Rattle.rectangle_pack.proofs.Checked.{passed}
-use Rattle.rectangle_pack.proofs.Ending.{pack-refused, pack-done}
+use Rattle.rectangle_pack.proofs.Ending.{pack-refused, all-pass, pack-done}
 use Rattle.rectangle_pack.proofs.packing.pack as it
 
 pack-checked-requires : it.Tie.Need-pack-checked-requires
-pack-checked-requires c κs = let e = c .before .before .before in passed _ _ _ _ (sym (ap (λ (r : Reply). r .number) (e .before .before .check-pack .ensures)) ∙ e .if1 .left)
+pack-checked-requires c κs = let e = c .before .before .before in passed _ _ _ _ (all-pass _ _ _ _ _ (e .before .before .check-pack .ensures) (e .if1 .left))
 
 returns-2 : it.Tie.Need-returns-2
-returns-2 c = let q = c .before .before .before .before .before .before in let e = q .before .before .before .before in pack-done _ _ _ _ _ (e .before .before .check-pack .ensures) (e .if1 .left) _ (q .pack-checked .ensures)
+returns-2 c = let q = c .before .before .before .before .before .before in let e = q .before .before .before .before in pack-done _ _ _ _ _ (all-pass _ _ _ _ _ (e .before .before .check-pack .ensures) (e .if1 .left)) (q .pack-checked .ensures)
 
 pub pack-spec : {M : Type 1} → it.Statement.statement M
 pack-spec =

@@ -1,5 +1,5 @@
-use Rattle.lists.proofs.Kit.{arith, ℕ, _+_, _*_, _≤_, _<_, _≡_, ap, _∙_, List, length, needs}
-use Rattle.target_bin.proofs.Checking.{said}
+use Rattle.lists.proofs.Kit.{arith, refl, ℕ, _+_, _*_, _≤_, _<_, _≡_, ap, _∙_, List, length, needs}
+use Rattle.target_bin.proofs.Checking.{outcome-is}
 use Rattle.target_bin.specs.declared.chamber.TargetBin.{TargetBin}
 use Rattle.target_bin.specs.Chambers.{chamberAt, chamberCount}
 use Rattle.target_bin.specs.Checks.{Shaped}
@@ -17,7 +17,7 @@ count-in chambers store k b shaped h read = omega (arith, ap (λ (x : TargetBin)
 
 returns : it.Tie.Need-returns
 returns c =
-    said _ _ (c .new .ensures)
+    outcome-is _ _ _ _ _ _ (c .new .ensures) refl refl
     ∙ return-unknown _ _ _ _ _ (c .before .before .find-chamber .ensures) (c .before .if1 .taken)
 
 push-available-bin-section-requires : it.Tie.Need-push-available-bin-section-requires
