@@ -13,8 +13,8 @@ use Rattle.bin_section.specs.Section.{sectionAt, zeroSection}
 use Rattle.sections.specs.Sections.{sections}
 use Rattle.sections.proofs.Reading.{length-sections, getD-sections}
 use Rattle.try_place.specs.declared.packed_location.PackedLocation.{PackedLocation}
-use Rattle.try_place.specs.declared.Placement.{Placement}
-use Rattle.try_place.specs.declared.Placement.the-variants.{
+use Rattle.try_place.specs.declared.TryAnswer.{TryAnswer}
+use Rattle.try_place.specs.declared.TryAnswer.the-variants.{
   Placed,
   BadSection,
   BadRectangle,
@@ -22,7 +22,7 @@ use Rattle.try_place.specs.declared.Placement.the-variants.{
   PlacementTallerThanBinSection,
   PlacementDeeperThanBinSection,
 }
-use Rattle.try_place.proofs.Placement.{the-type}
+use Rattle.try_place.proofs.TryAnswer.{the-type}
 use Rattle.try_place.specs.declared.Tried as Try
 use Rattle.try_place.specs.Try.{fitOf, onPlaced}
 use Rattle.try_place.specs.Appended.{appendedOf}
@@ -30,7 +30,7 @@ use Rattle.placing.specs.Rules.{One, nowhere, placed, placeFrom, placeOn
 
 -- the answer is taken apart: a refusal goes on with what else there is
 pub refused-else :
-    {A : Type 0} (a : Placement) (f : PackedLocation → A) (e : A)
+    {A : Type 0} (a : TryAnswer) (f : PackedLocation → A) (e : A)
     → OneOf (1 ∷ 2 ∷ 3 ∷ 4 ∷ 5 ∷ []) (tagOf the-type a)
     → onPlaced a f e ≡ e
 refused-else (Placed l) f e h = absurd (miss (1 ∷ 2 ∷ 3 ∷ 4 ∷ 5 ∷ []) 0 tt h)

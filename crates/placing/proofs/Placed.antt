@@ -10,7 +10,7 @@ use Rattle.bin_section.specs.declared.rect_to_insert.RectToInsert.{RectToInsert
 use Rattle.bin_section.specs.Section.{sectionAt}
 use Rattle.sections.specs.Sections.{sections}
 use Rattle.try_place.specs.declared.packed_location.PackedLocation.{PackedLocation}
-use Rattle.try_place.specs.declared.Placement.the-variants.{Placed}
+use Rattle.try_place.specs.declared.TryAnswer.the-variants.{Placed}
 use Rattle.try_place.specs.declared.Tried as Try
 use Rattle.try_place.specs.Choice.{SmallBoxes}
 use Rattle.try_place.specs.Try.{Reachable, fitOf}

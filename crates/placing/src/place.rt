@@ -13,7 +13,7 @@ use bin_section::BinSection;
 use bin_section::RectToInsert;
 use sections::remove_section;
 use try_place::PackedLocation;
-use try_place::Placement;
+use try_place::TryAnswer;
 use try_place::try_place;
 
 // Where a rectangle went.
@@ -48,7 +48,7 @@ pub fn place_rect(words: &mut [u32], count: usize, incoming: RectToInsert) -> Pl
         let section = BinSection::read(words, i);
         let tried = try_place(section, incoming);
         let answer = tried.answer;
-        let Placement::Placed(location) = answer else {
+        let TryAnswer::Placed(location) = answer else {
             continue;
         };
         let three = tried.sections;

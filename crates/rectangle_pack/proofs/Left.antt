@@ -21,7 +21,7 @@ use Rattle.replies.specs.Replies.{reply}
 use Rattle.bin_section.specs.Inside.{Inside}
 use Rattle.sections.specs.Sections.{sections}
 use Rattle.try_place.specs.declared.packed_location.PackedLocation.{PackedLocation}
-use Rattle.try_place.specs.declared.Placement.the-variants.{Placed}
+use Rattle.try_place.specs.declared.TryAnswer.the-variants.{Placed}
 use Rattle.try_place.specs.declared.Tried.{Tried}
 use Rattle.try_place.specs.Try.{Reachable, fitOf}
 use Rattle.try_place.specs.Appended.{larger, keptOne, kept, appendedOf}

@@ -1,19 +1,17 @@
--- Laws of a try whose answer comes first: a refusal has nothing else to give, and what is placed has the chosen three beside it.
+-- Laws of a try whose answer comes first: a refusal has nothing else to give, and what is placed passed every check.
 use Prim.Native.Nat.{ℕ}
 use mathlib.Core.Path.{_≡_, refl, ap, _∙_}
 use mathlib.Core.List.{List, [], _∷_}
-use mathlib.Core.Bool.{Bool, true, false, not, cond}
 use native.Mathlib.Omega.{arith}
-use lib.Dec.{ltb}
 use types.Run.{OneOf, miss}
 use denote.Enum.Declared.{tagOf}
+use Rattle.replies.proofs.Ladders.{AllPass, row-passes, alone-fires, past-all, in-map}
 use Rattle.bin_section.specs.declared.rect_to_insert.RectToInsert.{RectToInsert}
 use Rattle.bin_section.specs.declared.section.BinSection.{BinSection}
-use Rattle.bin_section.specs.Sides.{sidesOk}
 use Rattle.try_place.specs.declared.packed_location.PackedLocation.{PackedLocation}
 use Rattle.try_place.specs.declared.Tried.{Tried}
-use Rattle.try_place.specs.declared.Placement.{Placement}
-use Rattle.try_place.specs.declared.Placement.the-variants.{
+use Rattle.try_place.specs.declared.TryAnswer.{TryAnswer}
+use Rattle.try_place.specs.declared.TryAnswer.the-variants.{
   Placed,
   BadSection,
   BadRectangle,
@@ -21,58 +19,51 @@ use Rattle.try_place.specs.declared.Placement.the-variants.{
   PlacementTallerThanBinSection,
   PlacementDeeperThanBinSection,
 }
-use Rattle.try_place.specs.Try.{sectionOk, refusedOf, placedOf, fitOf, tryOf}
-use Rattle.try_place.proofs.Placement.{the-type}
+use Rattle.try_place.specs.Try.{refusedOf, placedOf, fitChecks, fitOf, tryChecks, tryOf, numberOf}
+use Rattle.try_place.proofs.TryAnswer.{the-type}
 
 -- the tags of the refusals
-abbrev Refusal : Placement → Type 0
+abbrev Refusal : TryAnswer → Type 0
 Refusal a = OneOf (1 ∷ 2 ∷ 3 ∷ 4 ∷ 5 ∷ []) (tagOf the-type a)
 
--- the answers of a row of tests: the first that is true refuses, else it is placed
-abbrev byTests : Bool → Bool → Bool → Bool → Bool → Tried → Tried
-byTests a b w h d t =
-    cond a (refusedOf BadSection)
-    (cond b (refusedOf BadRectangle)
-    (cond w (refusedOf PlacementWiderThanBinSection)
-    (cond h (refusedOf PlacementTallerThanBinSection) (cond d (refusedOf PlacementDeeperThanBinSection) t))))
+-- a refusal's number is not 0
+refusal-numbered : (a : TryAnswer) → Refusal a → numberOf a ≡ 0 → ⊥
+refusal-numbered (Placed l) o e = miss (1 ∷ 2 ∷ 3 ∷ 4 ∷ 5 ∷ []) 0 tt o
+refusal-numbered BadSection o e = omega arith
+refusal-numbered BadRectangle o e = omega arith
+refusal-numbered PlacementWiderThanBinSection o e = omega arith
+refusal-numbered PlacementTallerThanBinSection o e = omega arith
+refusal-numbered PlacementDeeperThanBinSection o e = omega arith
 
-refused-by :
-    (a b w h d : Bool) (t : Tried) (l : PackedLocation) (x : Placement)
-    → t .answer ≡ Placed l
-    → x ≡ byTests a b w h d t .answer
-    → Refusal x
-    → refusedOf x ≡ byTests a b w h d t
-refused-by true b w h d t l x p e o = ap refusedOf e
-refused-by false true w h d t l x p e o = ap refusedOf e
-refused-by false false true h d t l x p e o = ap refusedOf e
-refused-by false false false true d t l x p e o = ap refusedOf e
-refused-by false false false false true t l x p e o = ap refusedOf e
-refused-by false false false false false t l x p e o = absurd (miss (1 ∷ 2 ∷ 3 ∷ 4 ∷ 5 ∷ []) 0 tt (rw (e ∙ p) at o))
-
-module _ (s : BinSection) (r : RectToInsert) (x : Placement) where
-  pub refused-fit : x ≡ fitOf s r .answer → Refusal x → refusedOf x ≡ fitOf s r
+module _ (s : BinSection) (r : RectToInsert) where
+  pub refused-fit : (x : TryAnswer) → x ≡ fitOf s r .answer → Refusal x → refusedOf x ≡ fitOf s r
   unfolding fitOf
-  refused-fit e o =
-      refused-by false false (ltb (s .whd .width) (r .whd .width)) (ltb (s .whd .height) (r .whd .height))
-      (ltb (s .whd .depth) (r .whd .depth)) (placedOf s r) _ x refl e o
+  refused-fit x e o =
+      alone-fires numberOf (λ a. refusedOf a) (placedOf s r) (fitChecks s r) _ x refl
+      (e ∙ in-map (λ a. refusedOf a) (placedOf s r) (λ t. t .answer) (fitChecks s r)) (refusal-numbered x o)
 
-  pub refused-try : x ≡ tryOf s r .answer → Refusal x → refusedOf x ≡ tryOf s r
-  unfolding tryOf fitOf
-  refused-try e o =
-      refused-by (not (sectionOk s)) (not (sidesOk (r .whd))) (ltb (s .whd .width) (r .whd .width))
-      (ltb (s .whd .height) (r .whd .height)) (ltb (s .whd .depth) (r .whd .depth)) (placedOf s r) _ x refl e o
+  pub refused-try : (x : TryAnswer) → x ≡ tryOf s r .answer → Refusal x → refusedOf x ≡ tryOf s r
+  unfolding tryOf
+  refused-try x e o =
+      alone-fires numberOf (λ a. refusedOf a) (placedOf s r) (tryChecks s r) _ x refl
+      (e ∙ in-map (λ a. refusedOf a) (placedOf s r) (λ t. t .answer) (tryChecks s r)) (refusal-numbered x o)
+
+  pub fit-passes : (l : PackedLocation) → fitOf s r .answer ≡ Placed l → AllPass (fitChecks s r)
+  unfolding fitOf fitChecks
+  fit-passes l e = row-passes (λ t. numberOf (t .answer)) (λ a. refusedOf a) (placedOf s r) (fitChecks s r) (fitOf s r) refl refl (ap numberOf e)
+
+  pub try-passes : (l : PackedLocation) → tryOf s r .answer ≡ Placed l → AllPass (tryChecks s r)
+  unfolding tryOf tryChecks fitChecks
+  try-passes l e = row-passes (λ t. numberOf (t .answer)) (λ a. refusedOf a) (placedOf s r) (tryChecks s r) (tryOf s r) refl refl (ap numberOf e)
+
+  pub fit-placed : AllPass (fitChecks s r) → fitOf s r ≡ placedOf s r
+  unfolding fitOf
+  fit-placed p = past-all _ _ (fitChecks s r) p
+
+  pub try-placed : AllPass (tryChecks s r) → tryOf s r ≡ placedOf s r
+  unfolding tryOf
+  try-placed p = past-all _ _ (tryChecks s r) p
 
 -- the sections put beside the answer
-pub beside : (x : Placement) (three : List BinSection) (t : Tried) → x ≡ t .answer → three ≡ t .sections → record { answer = x; sections = three } ≡ t
+pub beside : (x : TryAnswer) (three : List BinSection) (t : Tried) → x ≡ t .answer → three ≡ t .sections → record { answer = x; sections = three } ≡ t
 beside x three t e f = rw (e, f)
-
--- a try that is placed passed the checks 3 and 4
-module _ (s : BinSection) (r : RectToInsert) (l : PackedLocation) where
-  passed-by : (a b : Bool) (t : Tried) → cond (not a) (refusedOf BadSection) (cond (not b) (refusedOf BadRectangle) t) .answer ≡ Placed l → (a ≡ true) × (b ≡ true)
-  passed-by true true t e = (refl, refl)
-  passed-by true false t e = let z : _≡_ {A = ℕ} 0 1 = cc in absurd (omega arith)
-  passed-by false b t e = let z : _≡_ {A = ℕ} 0 1 = cc in absurd (omega arith)
-
-  pub placed-passed : tryOf s r .answer ≡ Placed l → (sectionOk s ≡ true) × (sidesOk (r .whd) ≡ true)
-  unfolding tryOf
-  placed-passed e = passed-by (sectionOk s) (sidesOk (r .whd)) (fitOf s r) e

@@ -2,29 +2,22 @@
 use Prim.Native.Nat.{ℕ, zero, suc, _+_, _≤_, _<_}
 use mathlib.Core.Path.{_≡_, refl, sym, ap, _∙_}
 use mathlib.Core.List.{List, [], _∷_}
-use mathlib.Core.Bool.{Bool, true, false}
 use native.Mathlib.Omega.{arith}
-use native.Mathlib.Decide.{decLt}
-use borrow.Author.Tests.{lt-ltb, le-ltb}
+use borrow.Author.Tests.{ltb-false}
 use lib.ListN.{length, getD}
+use Rattle.replies.proofs.Ladders.{AllPass}
 use Rattle.bin_section.specs.declared.rect_to_insert.RectToInsert.{RectToInsert}
 use Rattle.bin_section.specs.declared.section.BinSection.{BinSection}
 use Rattle.bin_section.specs.Section.{zeroSection}
 use Rattle.bin_section.specs.Sides.{Small}
 use Rattle.try_place.specs.declared.packed_location.PackedLocation.{PackedLocation}
-use Rattle.try_place.specs.declared.Placement.{Placement}
-use Rattle.try_place.specs.declared.Placement.the-variants.{
-  Placed,
-  PlacementWiderThanBinSection,
-  PlacementTallerThanBinSection,
-  PlacementDeeperThanBinSection,
-}
+use Rattle.try_place.specs.declared.TryAnswer.the-variants.{Placed}
 use Rattle.try_place.specs.declared.Tried.{Tried}
 use Rattle.try_place.specs.Splits.{Fitting, sixSplits}
 use Rattle.try_place.specs.Choice.{SmallBoxes, chosen}
-use Rattle.try_place.specs.Try.{Reachable, placedOf, fitOf}
+use Rattle.try_place.specs.Try.{Reachable, placedOf, fitChecks, fitOf}
 use Rattle.try_place.proofs.Choosing.{chosen-below}
-use Rattle.try_place.proofs.Trying.{fit-wider, fit-taller, fit-deeper, fit-placed}
+use Rattle.try_place.proofs.Refusing.{fit-passes, fit-placed}
 
 -- b does not reach past s on any side
 pub record Within (s b : BinSection) : Type 0 where
@@ -66,48 +59,25 @@ within-reachable s b p w = record { x-end = omega arith; y-end = omega arith; z-
 pub within-small : (s b : BinSection) → Reachable s → Within s b → Small (b .whd)
 within-small s b p w = record { width-small = omega arith; height-small = omega arith; depth-small = omega arith }
 
+pub fitting : (s : BinSection) (r : RectToInsert) → Reachable s → AllPass (fitChecks s r) → Fitting s r
+unfolding fitChecks
+fitting s r p all =
+    record {
+      x-end = p .x-end;
+      y-end = p .y-end;
+      z-end = p .z-end;
+      width-fits = ltb-false _ _ (all .0);
+      height-fits = ltb-false _ _ (all .1 .0);
+      depth-fits = ltb-false _ _ (all .1 .1 .0);
+    }
+
 module _ (s : BinSection) (r : RectToInsert) (l : PackedLocation) (p : Reachable s) (e : fitOf s r .answer ≡ Placed l) where
-  no-wider : s .whd .width < r .whd .width → ⊥
-  no-wider h =
-      let f : PlacementWiderThanBinSection ≡ Placed l = ap (λ (t : Tried). t .answer) (fit-wider s r h) ∙ e in
-      let z : _≡_ {A = ℕ} 0 1 = cc in
-      omega arith
-
-  width-fits : r .whd .width ≤ s .whd .width
-  width-fits = elim (decLt (s .whd .width) (r .whd .width)) [ yes h ↦ absurd (no-wider h) | no h ↦ omega arith ]
-
-  no-taller : s .whd .height < r .whd .height → ⊥
-  no-taller h =
-      let f : PlacementTallerThanBinSection ≡ Placed l = ap (λ (t : Tried). t .answer) (fit-taller s r width-fits h) ∙ e in
-      let z : _≡_ {A = ℕ} 0 1 = cc in
-      omega arith
-
-  height-fits : r .whd .height ≤ s .whd .height
-  height-fits = elim (decLt (s .whd .height) (r .whd .height)) [ yes h ↦ absurd (no-taller h) | no h ↦ omega arith ]
-
-  no-deeper : s .whd .depth < r .whd .depth → ⊥
-  no-deeper h =
-      let f : PlacementDeeperThanBinSection ≡ Placed l = ap (λ (t : Tried). t .answer) (fit-deeper s r width-fits height-fits h) ∙ e in
-      let z : _≡_ {A = ℕ} 0 1 = cc in
-      omega arith
-
-  depth-fits : r .whd .depth ≤ s .whd .depth
-  depth-fits = elim (decLt (s .whd .depth) (r .whd .depth)) [ yes h ↦ absurd (no-deeper h) | no h ↦ omega arith ]
-
   pub placed-fitting : Fitting s r
-  placed-fitting =
-      record {
-        x-end = p .x-end;
-        y-end = p .y-end;
-        z-end = p .z-end;
-        width-fits = width-fits;
-        height-fits = height-fits;
-        depth-fits = depth-fits;
-      }
+  placed-fitting = fitting s r p (fit-passes s r l e)
 
   -- a try that is placed gives the chosen three
   pub placed-is : fitOf s r ≡ placedOf s r
-  placed-is = sym (fit-placed s r width-fits height-fits depth-fits)
+  placed-is = fit-placed s r (fit-passes s r l e)
 
   pub placed-within : ThreeWithin s (fitOf s r .sections)
   placed-within =

@@ -1,8 +1,8 @@
 // Try one placement: a rectangle in the corner of a section, and what remains.
 ghost use mathlib.Core.Path.{_≡_};
 ghost use Rattle.try_place.specs.Splits.{Fitting};
-ghost use Rattle.try_place.specs.Try.{spanOk, sectionOk, Reachable, refusedOf, placedOf, fitOf, tryOf, tryChecks, numberOf, locationOf};
-ghost use Rattle.replies.specs.Replies.{reply, inOrder};
+ghost use Rattle.try_place.specs.Try.{spanOk, sectionOk, Reachable, refusedOf, placedOf, fitOf, tryOf, numberOf, locationOf};
+ghost use Rattle.replies.specs.Replies.{reply};
 
 mod choice;
 mod packed_location;
@@ -18,7 +18,7 @@ use replies::Reply;
 use splits::six_splits;
 
 // The answer to a try. The last three are the Rust's BinSectionError.
-pub enum Placement {
+pub enum TryAnswer {
     Placed(PackedLocation),
     BadSection,
     BadRectangle,
@@ -29,7 +29,7 @@ pub enum Placement {
 
 // The answer with the three sections beside it, right, above, behind. A refusal has three zero sections.
 pub struct Tried {
-    pub answer: Placement,
+    pub answer: TryAnswer,
     pub sections: [BinSection; 3],
 }
 
@@ -38,17 +38,17 @@ impl Tried {
     pub const WORDS: usize = PackedLocation::WORDS + 3 * BinSection::WORDS;
 }
 
-impl Placement {
+impl TryAnswer {
     fn number(self) -> u32
         ensures { λ n. ⌜ n ≡ numberOf self ⌝ }
     {
         match self {
-            Placement::Placed(_) => 0,
-            Placement::BadSection => 3,
-            Placement::BadRectangle => 4,
-            Placement::PlacementWiderThanBinSection => 12,
-            Placement::PlacementTallerThanBinSection => 13,
-            Placement::PlacementDeeperThanBinSection => 14,
+            TryAnswer::Placed(_) => Reply::DONE,
+            TryAnswer::BadSection => Reply::BAD_SECTION,
+            TryAnswer::BadRectangle => Reply::BAD_RECTANGLE,
+            TryAnswer::PlacementWiderThanBinSection => Reply::TOO_WIDE,
+            TryAnswer::PlacementTallerThanBinSection => Reply::TOO_TALL,
+            TryAnswer::PlacementDeeperThanBinSection => Reply::TOO_DEEP,
         }
     }
 
@@ -63,7 +63,7 @@ impl Placement {
     pub fn location(self) -> PackedLocation
         ensures { λ l. ⌜ l ≡ locationOf self ⌝ }
     {
-        let Placement::Placed(location) = self else {
+        let TryAnswer::Placed(location) = self else {
             return PackedLocation {
                 x: 0,
                 y: 0,
@@ -75,7 +75,7 @@ impl Placement {
     }
 }
 
-fn refused(answer: Placement) -> Tried
+fn refused(answer: TryAnswer) -> Tried
     ensures { λ t. ⌜ t ≡ refusedOf answer ⌝ }
 {
     let zero = BinSection::zero();
@@ -84,20 +84,20 @@ fn refused(answer: Placement) -> Tried
 }
 
 // Where the rectangle goes in the section, or why it does not fit: the Rust's incoming_can_fit.
-fn fit(section: BinSection, incoming: RectToInsert) -> Placement
+fn fit(section: BinSection, incoming: RectToInsert) -> TryAnswer
     ensures { λ a. ⌜ a ≡ fitOf section incoming .answer ⌝ }
 {
     if section.whd.width < incoming.whd.width {
-        return Placement::PlacementWiderThanBinSection;
+        return TryAnswer::PlacementWiderThanBinSection;
     }
     if section.whd.height < incoming.whd.height {
-        return Placement::PlacementTallerThanBinSection;
+        return TryAnswer::PlacementTallerThanBinSection;
     }
     if section.whd.depth < incoming.whd.depth {
-        return Placement::PlacementDeeperThanBinSection;
+        return TryAnswer::PlacementDeeperThanBinSection;
     }
     let whd = incoming.whd;
-    Placement::Placed(PackedLocation {
+    TryAnswer::Placed(PackedLocation {
         x: section.x,
         y: section.y,
         z: section.z,
@@ -121,7 +121,7 @@ pub fn try_place(section: BinSection, incoming: RectToInsert) -> Tried
     ensures { λ t. ⌜ t ≡ fitOf section incoming ⌝ }
 {
     let answer = fit(section, incoming);
-    let Placement::Placed(_) = answer else {
+    let TryAnswer::Placed(_) = answer else {
         return refused(answer);
     };
     let sections = chosen_three(section, incoming);
@@ -142,24 +142,24 @@ fn span_ok(origin: u32, side: u32) -> bool
 }
 
 // The checks 3 and 4, then the fit.
-fn answer_to(section: BinSection, rectangle: RectToInsert) -> Placement
+fn answer_to(section: BinSection, rectangle: RectToInsert) -> TryAnswer
     ensures { λ a. ⌜ a ≡ tryOf section rectangle .answer ⌝ }
 {
     if !in_range(section) {
-        return Placement::BadSection;
+        return TryAnswer::BadSection;
     }
     if !rectangle.whd.in_range() {
-        return Placement::BadRectangle;
+        return TryAnswer::BadRectangle;
     }
     fit(section, rectangle)
 }
 
 // Try one placement, for any section and any rectangle.
 pub fn try_placement(section: BinSection, rectangle: RectToInsert) -> Tried
-    ensures { λ t. ⌜ (t ≡ tryOf section rectangle) × (reply (numberOf (t .answer)) 0 ≡ inOrder (tryChecks section rectangle) (λ a. a) (reply 0 0)) ⌝ }
+    ensures { λ t. ⌜ t ≡ tryOf section rectangle ⌝ }
 {
     let answer = answer_to(section, rectangle);
-    let Placement::Placed(_) = answer else {
+    let TryAnswer::Placed(_) = answer else {
         return refused(answer);
     };
     let sections = chosen_three(section, rectangle);

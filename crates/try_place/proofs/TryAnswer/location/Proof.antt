@@ -2,13 +2,13 @@
 use Rattle.lists.proofs.Kit.{needs, _≡_, refl, sym, ap, _∙_, [], _∷_}
 use types.Run.{OneOf, miss}
 use denote.Enum.Declared.{tagOf}
-use Rattle.try_place.specs.declared.Placement.{Placement}
-use Rattle.try_place.specs.declared.Placement.the-variants.{Placed, BadSection, BadRectangle, PlacementWiderThanBinSection, PlacementTallerThanBinSection, PlacementDeeperThanBinSection}
+use Rattle.try_place.specs.declared.TryAnswer.{TryAnswer}
+use Rattle.try_place.specs.declared.TryAnswer.the-variants.{Placed, BadSection, BadRectangle, PlacementWiderThanBinSection, PlacementTallerThanBinSection, PlacementDeeperThanBinSection}
 use Rattle.try_place.specs.Try.{locationOf, zeroLocation}
-use Rattle.try_place.proofs.Placement.{the-type}
-use Rattle.try_place.proofs.Placement.location as it
+use Rattle.try_place.proofs.TryAnswer.{the-type}
+use Rattle.try_place.proofs.TryAnswer.location as it
 
-refusal-zero : (a : Placement) → OneOf (1 ∷ 2 ∷ 3 ∷ 4 ∷ 5 ∷ []) (tagOf the-type a) → zeroLocation ≡ locationOf a
+refusal-zero : (a : TryAnswer) → OneOf (1 ∷ 2 ∷ 3 ∷ 4 ∷ 5 ∷ []) (tagOf the-type a) → zeroLocation ≡ locationOf a
 refusal-zero (Placed l) h = absurd (miss (1 ∷ 2 ∷ 3 ∷ 4 ∷ 5 ∷ []) 0 tt h)
 refusal-zero BadSection h = refl
 refusal-zero BadRectangle h = refl
