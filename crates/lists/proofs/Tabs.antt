@@ -93,6 +93,20 @@ module _ {A : Type 0} where
   length-removeAt zero (x ∷ xs) h = refl
   length-removeAt (suc i) (x ∷ xs) h = ap suc (length-removeAt i xs (le-of-suc-le-suc h))
 
+  pub getD-removeAt-before : (i j : ℕ) (xs : List A) (d : A) → j < i → getD (removeAt i xs) j d ≡ getD xs j d
+  unfolding removeAt
+  getD-removeAt-before zero j xs d h = absurd (not-suc-le-zero h)
+  getD-removeAt-before (suc i) j [] d h = refl
+  getD-removeAt-before (suc i) zero (x ∷ xs) d h = refl
+  getD-removeAt-before (suc i) (suc j) (x ∷ xs) d h = getD-removeAt-before i j xs d (le-of-suc-le-suc h)
+
+  pub getD-removeAt-after : (i j : ℕ) (xs : List A) (d : A) → i ≤ j → getD (removeAt i xs) j d ≡ getD xs (suc j) d
+  unfolding removeAt
+  getD-removeAt-after i j [] d h = refl
+  getD-removeAt-after zero j (x ∷ xs) d h = refl
+  getD-removeAt-after (suc i) zero (x ∷ xs) d h = absurd (not-suc-le-zero h)
+  getD-removeAt-after (suc i) (suc j) (x ∷ xs) d h = getD-removeAt-after i j xs d (le-of-suc-le-suc h)
+
   pub shift-none : (i : ℕ) (ss : List A) → ss ≡ shifted i i ss
   unfolding removeAt
   shift-none zero ss = refl

@@ -1,0 +1,3 @@
+pub mod Pasting
+pub mod Records
+pub mod Taking
