@@ -1,16 +1,23 @@
--- Six words stored one after the other are the section put.
-use Prim.Native.Nat.{ℕ, _+_, _≤_}
-use mathlib.Core.Path.{_≡_}
-use mathlib.Core.List.{List, [], _∷_}
-use native.Mathlib.Numerals.{towards-suc}
-use lib.ListN.{length, set}
-use lib.Seq.{sets-eq}
-use Rattle.lists.specs.Tab.{put}
+-- A section in its six words.
+use Prim.Native.Nat.{ℕ, _+_, _*_, _≤_, _<_}
+use mathlib.Core.Path.{_≡_, refl}
+use mathlib.Core.List.{List}
+use native.Mathlib.Nat.{add-zero}
+use native.Mathlib.Omega.{arith}
+use lib.ListN.{length, getD, take, drop}
+use Rattle.lists.specs.Tab.{tab}
+use Rattle.lists.proofs.Tabs.{middle}
+use Rattle.words.proofs.Records.{Layout}
+use Rattle.bin_section.specs.Section.{sectionAt, wordsOf}
 
-pub six-stores :
-    (w : List ℕ) (at a b c d e f : ℕ)
-    → at + 6 ≤ length w
-    → set (set (set (set (set (set w at a) (at + 1) b) (at + 2) c) (at + 3) d) (at + 4) e) (at + 5) f
-    ≡ put w at (a ∷ b ∷ c ∷ d ∷ e ∷ f ∷ [])
-unfolding put
-six-stores w at a b c d e f h = simp towards-suc (simp towards-suc at (sets-eq (a ∷ b ∷ c ∷ d ∷ e ∷ f ∷ []) w at h))
+pub section-layout : Layout 6 sectionAt (λ s. wordsOf s)
+unfolding sectionAt tab
+section-layout =
+    record {
+      size = λ s. refl;
+      ext = λ w v i j h.
+          let x : getD w (i * 6) 0 ≡ getD v (j * 6) 0 = simp add-zero at (h 0 (omega arith)) in
+          rw (x, h 1 (omega arith), h 2 (omega arith), h 3 (omega arith), h 4 (omega arith), h 5 (omega arith));
+      read-back = λ s. refl;
+      written-back = λ w i h. rw (middle 6 (i * 6) w h) (simp add-zero);
+    }

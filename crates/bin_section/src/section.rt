@@ -5,6 +5,7 @@ ghost use lib.ListN.{length};
 ghost use Rattle.lists.specs.Tab.{put};
 ghost use Rattle.bin_section.specs.Section.{section, wholeSection, zeroSection, sectionAt, wordsOf};
 use crate::width_height_depth::WidthHeightDepth;
+use words::put_words;
 
 pub struct BinSection {
     pub x: u32,
@@ -60,11 +61,17 @@ impl BinSection {
         ensures { λ _. ⌜ now (words .exit) ≡ put (now (words .entry)) (i * 6) (wordsOf self) ⌝ }
     {
         let at = i * BinSection::WORDS;
-        words[at] = self.x;
-        words[at + 1] = self.y;
-        words[at + 2] = self.z;
-        words[at + 3] = self.whd.width;
-        words[at + 4] = self.whd.height;
-        words[at + 5] = self.whd.depth;
+        put_words(
+            words,
+            at,
+            &[
+                self.x,
+                self.y,
+                self.z,
+                self.whd.width,
+                self.whd.height,
+                self.whd.depth,
+            ],
+        );
     }
 }

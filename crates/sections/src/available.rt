@@ -4,20 +4,17 @@ ghost use Prim.Native.Nat.{_+_, _*_, _≤_, _<_};
 ghost use lib.ListN.{length};
 ghost use Rattle.sections.specs.Changes.{Removed, Appended, Cleared};
 use bin_section::BinSection;
+use words::fill;
+use words::take_out;
 
 // Takes the section at i out of the first count: later ones move down one, and the freed last becomes six zeros.
 pub fn remove_section(words: &mut [u32], count: usize, i: usize)
     requires { ⌜ (count * 6 ≤ length (now words)) × (i < count) ⌝ }
     ensures { λ _. ⌜ Removed count i (now (words .entry)) (now (words .exit)) ⌝ }
 {
-    let last = count - 1;
-    let mut k = i;
-    while k < last {
-        let section = BinSection::read(words, k + 1);
-        section.write(words, k);
-        k += 1;
-    }
-    BinSection::zero().write(words, last);
+    let at = i * BinSection::WORDS;
+    let behind = (count - (i + 1)) * BinSection::WORDS;
+    take_out(words, at, BinSection::WORDS, behind);
 }
 
 // Puts a section after the first count.
@@ -33,9 +30,7 @@ pub fn clear_past(words: &mut [u32], count: usize)
     requires { ⌜ count * 6 ≤ length (now words) ⌝ }
     ensures { λ _. ⌜ Cleared count (now (words .entry)) (now (words .exit)) ⌝ }
 {
-    let mut k = count * BinSection::WORDS;
-    while k < words.len() {
-        words[k] = 0;
-        k += 1;
-    }
+    let at = count * BinSection::WORDS;
+    let past = words.len() - at;
+    fill(words, at, past, 0);
 }

@@ -8,7 +8,7 @@ use Rattle.bin_section.specs.declared.section.BinSection.{BinSection}
 use Rattle.bin_section.specs.Section.{wholeSection, zeroSection, sectionAt}
 use Rattle.bin_section.specs.Sides.{sides}
 use Rattle.bin_section.specs.Inside.{Inside}
-use Rattle.sections.proofs.Chunks.{length-joined-tab}
+use Rattle.words.proofs.Records.{length-joined-tab}
 use Rattle.sections.proofs.Reading.{getD-sections}
 use Rattle.target_bin.specs.declared.chamber.TargetBin.{TargetBin}
 use Rattle.target_bin.specs.Chambers.{bin, binWords, chamberAt, chamberCount, chambersOf}

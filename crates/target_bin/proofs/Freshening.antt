@@ -13,9 +13,10 @@ use Rattle.bin_section.specs.declared.section.BinSection.{BinSection}
 use Rattle.bin_section.specs.Section.{wholeSection, wordsOf}
 use Rattle.replies.specs.Replies.{reply}
 use Rattle.lists.specs.Lowest.{lowest}
-use Rattle.sections.specs.Sections.{sections, joined, allWords}
+use Rattle.words.specs.Words.{joined}
+use Rattle.sections.specs.Sections.{sections, allWords}
 use Rattle.sections.specs.Changes.{Cleared}
-use Rattle.sections.proofs.Chunks.{joined-suc, length-joined-tab}
+use Rattle.words.proofs.Records.{length-joined-tab, partly, partly-more, partly-all}
 use Rattle.sections.proofs.Moves.{appended}
 use Rattle.target_bin.specs.declared.chamber.TargetBin.{TargetBin}
 use Rattle.target_bin.specs.Chambers.{freshBin, chamberAt, binWords, chamberCount, chambersOf, tableOf}
@@ -23,7 +24,7 @@ use Rattle.target_bin.specs.Store.{partOf, storeOf}
 use Rattle.target_bin.specs.Checks.{lengthsOk, badShape, check1, check2Fresh}
 use Rattle.target_bin.specs.Outcome.{Outcome, outcome, refused}
 use Rattle.target_bin.specs.Fresh.{freshened, freshTable, freshStore, freshOf}
-use Rattle.target_bin.proofs.Tables.{chamberAt-ext}
+use Rattle.target_bin.proofs.Tables.{chamber-layout}
 use Rattle.target_bin.proofs.Parts.{length-partOf}
 
 -- the free sections of a fresh chamber
@@ -47,32 +48,8 @@ fresh-record w w′ i b d wrote made read =
 
 -- ---- the chambers one after the other
 
--- words put where the new ones end
-put-seam : (p w vs : List ℕ) (a : ℕ) → length p ≡ a → put (p ++ drop a w) a vs ≡ (p ++ vs) ++ drop (a + length vs) w
-unfolding put
-put-seam p w vs a long =
-    ap₂ (λ (x y : List ℕ). (x ++ vs) ++ y) (take-at p (drop a w) a long)
-    (sym (drop-drop (length vs) a (p ++ drop a w)) ∙ ap (drop (length vs)) (drop-at p (drop a w) a long) ∙ drop-drop (length vs) a w)
-
 getD-seam : (p w : List ℕ) (a m : ℕ) → length p ≡ a → getD (p ++ drop a w) (a + m) 0 ≡ getD w (a + m) 0
 getD-seam p w a m long = rw (← long) (getD-append-add p (drop (length p) w) m 0 ∙ getD-drop (length p) w m 0)
-
--- the first i records written, then the words as they were
-module _ {A : Type 0} (words : A → List ℕ) (g : ℕ → A) (k : ℕ) (w₀ : List ℕ) where
-  abbrev pub partly : ℕ → List ℕ
-  partly i = joined words (tab i g) ++ drop (i * k) w₀
-
-  pub partly-more : (i : ℕ) → ((j : ℕ) → length (words (g j)) ≡ k) → i * k + k ≡ (i + 1) * k → put (partly i) (i * k) (words (g i)) ≡ partly (i + 1)
-  partly-more i each e =
-      put-seam (joined words (tab i g)) w₀ (words (g i)) (i * k) (length-joined-tab words k i g (λ j h. each j))
-      ∙ ap₂ (λ (x : List ℕ) (m : ℕ). x ++ drop m w₀)
-      (sym (joined-suc words i g) ∙ ap (λ (n : ℕ). joined words (tab n g)) (sym (add-one i)))
-      (ap (λ (m : ℕ). i * k + m) (each i) ∙ e)
-
-  pub partly-all : (n : ℕ) → length w₀ ≡ n * k → partly n ≡ joined words (tab n g)
-  partly-all n long =
-      ap (λ (x : List ℕ). joined words (tab n g) ++ x) (drop-of-length-le w₀ {i = n * k} (omega arith))
-      ∙ append-nil (joined words (tab n g))
 
 abbrev pub freshAt : List ℕ → ℕ → TargetBin
 freshAt chambers j = freshened (chamberAt chambers j)
@@ -96,18 +73,18 @@ pub freshly-more : (c₀ s₀ c s c′ s′ : List ℕ) (i : ℕ) → Freshly c�
 freshly-more c₀ s₀ c s c′ s′ i f h wrote-c wrote-s long-c long-s =
     let same : chamberAt c i ≡ chamberAt c₀ i =
     ap (λ (w : List ℕ). chamberAt w i) (f .table)
-    ∙ chamberAt-ext (partly (λ b. binWords b) (freshAt c₀) 5 c₀ i) c₀ i i
+    ∙ chamber-layout .ext (partly (λ b. binWords b) (freshAt c₀) 5 c₀ i) c₀ i i
     (λ m l. getD-seam (tableOf (tab i (freshAt c₀))) c₀ (i * 5) m (length-joined-tab (λ b. binWords b) 5 i (freshAt c₀) (λ j b. refl))) in
     record {
       low = omega arith;
       table =
           wrote-c
           ∙ ap₂ (λ (w : List ℕ) (b : TargetBin). put w (i * 5) (binWords (freshened b))) (f .table) same
-          ∙ partly-more (λ b. binWords b) (freshAt c₀) 5 c₀ i (λ j. refl) (omega arith);
+          ∙ partly-more (λ b. binWords b) (freshAt c₀) 5 c₀ i (λ j. refl);
       parts =
           wrote-s
           ∙ ap₂ (λ (w : List ℕ) (b : TargetBin). put w (i * 768) (partOf (wholeOf b))) (f .parts) same
-          ∙ partly-more partOf (wholeAt c₀) 768 s₀ i (λ j. length-partOf (wholeAt c₀ j) (omega arith)) (omega arith);
+          ∙ partly-more partOf (wholeAt c₀) 768 s₀ i (λ j. length-partOf (wholeAt c₀ j) (omega arith));
       table-long = long-c ∙ f .table-long;
       parts-long = long-s ∙ f .parts-long;
     }

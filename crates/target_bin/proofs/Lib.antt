@@ -3,7 +3,6 @@ pub mod Parts
 pub mod Checking
 pub mod Passing
 pub mod Freshening
-pub mod Putting
 pub mod Returning
 pub mod FreshModel
 pub mod ReturnModel

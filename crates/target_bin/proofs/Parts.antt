@@ -10,10 +10,10 @@ use lib.Seq.{length-take-le, getD-take, getD-drop, ext-getD, take-at, drop-at, t
 use Rattle.lists.specs.Tab.{tab, put}
 use Rattle.lists.proofs.Tabs.{length-tab, getD-tab, tab-set, length-put, getD-put-before, getD-put-after, lent}
 use Rattle.bin_section.specs.declared.section.BinSection.{BinSection}
-use Rattle.bin_section.specs.Section.{wordsOf}
+use Rattle.bin_section.specs.Section.{wordsOf, zeroSection}
 use Rattle.sections.specs.Sections.{sections, allWords}
 use Rattle.sections.specs.Changes.{ZeroPast}
-use Rattle.sections.proofs.Chunks.{length-joined, joined-take, joined-part}
+use Rattle.words.proofs.Records.{length-joined, joined-take, joined-part}
 use Rattle.sections.proofs.Reading.{decoded, length-sections}
 use Rattle.sections.proofs.Moves.{part-words}
 use Rattle.target_bin.specs.Chambers.{chamberAt, chamberCount}
@@ -96,14 +96,14 @@ only-trans p q = record { before = q .before ∙ p .before; after = q .after ∙
 pub length-partOf : (free : List BinSection) → length free ≤ 128 → length (partOf free) ≡ 768
 unfolding partOf
 length-partOf free h =
-    let e : length (allWords free) ≡ length free * 6 = length-joined (λ s. wordsOf s) 6 free (λ s. refl) in
+    let e : length (allWords free) ≡ length free * 6 = length-joined (λ s. wordsOf s) 6 free zeroSection (λ i b. refl) in
     simp (length-append, e, length-replicate) (omega arith)
 
 pub sections-partOf : (free : List BinSection) → sections (partOf free) (length free) ≡ free
 unfolding partOf
 sections-partOf free =
     decoded free (allWords free ++ replicate (768 - length free * 6) 0) (length free) refl
-    (take-at (allWords free) (replicate (768 - length free * 6) 0) (length free * 6) (length-joined (λ s. wordsOf s) 6 free (λ s. refl)))
+    (take-at (allWords free) (replicate (768 - length free * 6) 0) (length free * 6) (length-joined (λ s. wordsOf s) 6 free zeroSection (λ i b. refl)))
 
 pub length-freeOf : (chambers store : List ℕ) → length (freeOf chambers store) ≡ chamberCount chambers
 unfolding freeOf
@@ -136,7 +136,7 @@ written-again chambers store i small room zeros =
     let long : length (partAt store i) ≡ 768 = length-partAt store i room in
     let rest : 768 - length (sections (partAt store i) n) * 6 ≡ length (partAt store i) - n * 6 = omega (arith, length-sections (partAt store i) n) in
     ap (λ (m : ℕ). allWords (sections (partAt store i) n) ++ replicate m 0) rest
-    ∙ sym (part-words (partAt store i) n (omega arith) zeros)
+    ∙ sym (part-words (partAt store i) 128 n (omega arith) small zeros)
 
 -- what is read, written again, where "words past each count are 0"
 pub store-encoded : (chambers store : List ℕ) → Shaped chambers store → ((i : ℕ) → i < chamberCount chambers → ZeroPast (chamberAt chambers i .count) (partAt store i)) → storeOf (freeOf chambers store) ≡ store

@@ -39,7 +39,7 @@ use Rattle.replies.proofs.Ladders.{row-passes, alone-fires, past, past-all, in-
 use Rattle.target_bin.proofs.Tables.{chamberAt-set-same, chamberAt-set-other, chambers-set}
 use Rattle.target_bin.proofs.Parts.{length-partAt, partAt-put-same, only-in, free-set}
 use Rattle.target_bin.proofs.Passing.{Sound, tables-pass, tables-sound}
-use Rattle.target_bin.proofs.Putting.{put-in-part}
+use Rattle.words.proofs.Putting.{put-in-part}
 
 -- ---- an accepted return
 

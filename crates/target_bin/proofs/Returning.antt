@@ -24,7 +24,7 @@ use Rattle.target_bin.specs.Checks.{tableChecks}
 use Rattle.target_bin.specs.Outcome.{Outcome, outcome, refused}
 use Rattle.replies.proofs.Ladders.{AllPass, fires, passes, found-at, none-at, row-passes, alone-fires, past, past-all}
 use Rattle.target_bin.proofs.Parts.{lent-part, came-back, length-partAt}
-use Rattle.target_bin.proofs.Putting.{put-back, put-in-part}
+use Rattle.words.proofs.Putting.{put-back, put-in-part}
 
 -- ---- checks 8 to 11, as the code comes to them
 

@@ -8,7 +8,7 @@ use Rattle.lists.specs.Lowest.{lowest}
 use Rattle.lists.specs.Tab.{tab}
 use Rattle.bin_section.specs.declared.width_height_depth.WidthHeightDepth.{WidthHeightDepth}
 use Rattle.bin_section.specs.Sides.{sides}
-use Rattle.sections.specs.Sections.{joined}
+use Rattle.words.specs.Words.{joined}
 use Rattle.target_bin.specs.declared.chamber.TargetBin.{TargetBin}
 
 abbrev pub bin : ℕ → WidthHeightDepth → ℕ → TargetBin

@@ -4,7 +4,8 @@ use mathlib.Core.List.{List, _++_}
 use lib.ListN.{length, take, drop, replicate}
 use Rattle.lists.specs.Tab.{tab}
 use Rattle.bin_section.specs.declared.section.BinSection.{BinSection}
-use Rattle.sections.specs.Sections.{sections, joined, allWords}
+use Rattle.words.specs.Words.{joined}
+use Rattle.sections.specs.Sections.{sections, allWords}
 use Rattle.target_bin.specs.Chambers.{chamberAt, chamberCount}
 
 -- "Each chamber's 768 words are handled as one part of the store."

@@ -6,6 +6,7 @@ ghost use Rattle.lists.specs.Tab.{put};
 ghost use Rattle.target_bin.specs.Chambers.{freshBin, chamberAt, binWords};
 use bin_section::BinSection;
 use bin_section::WidthHeightDepth;
+use words::put_words;
 
 // The free sections themselves lie in the store: count says how many they are.
 pub struct TargetBin {
@@ -54,11 +55,17 @@ impl TargetBin {
         ensures { λ _. ⌜ now (chambers .exit) ≡ put (now (chambers .entry)) (i * 5) (binWords self) ⌝ }
     {
         let at = i * TargetBin::WORDS;
-        chambers[at] = self.id;
-        chambers[at + 1] = self.whd.width;
-        chambers[at + 2] = self.whd.height;
-        chambers[at + 3] = self.whd.depth;
-        chambers[at + 4] = self.count;
+        put_words(
+            chambers,
+            at,
+            &[
+                self.id,
+                self.whd.width,
+                self.whd.height,
+                self.whd.depth,
+                self.count,
+            ],
+        );
     }
 
     // Writes the free count of the chamber at index i, and no other word.

@@ -1,3 +1,4 @@
 pub mod Pasting
+pub mod Putting
 pub mod Records
 pub mod Taking
