@@ -14,19 +14,12 @@ use Rattle.sections.specs.Sections.{sections}
 use Rattle.sections.proofs.Reading.{length-sections, getD-sections}
 use Rattle.try_place.specs.declared.packed_location.PackedLocation.{PackedLocation}
 use Rattle.try_place.specs.declared.Placement.{Placement}
-use Rattle.try_place.specs.declared.Placement.the-variants.{
-  Placed,
-  BadSection,
-  BadRectangle,
-  PlacementWiderThanBinSection,
-  PlacementTallerThanBinSection,
-  PlacementDeeperThanBinSection,
-}
+use Rattle.try_place.specs.declared.Placement.the-variants.{Placed, BadSection, BadRectangle, PlacementWiderThanBinSection, PlacementTallerThanBinSection, PlacementDeeperThanBinSection}
 use Rattle.try_place.proofs.Placement.{the-type}
 use Rattle.try_place.specs.declared.Tried as Try
 use Rattle.try_place.specs.Try.{fitOf, onPlaced}
-use Rattle.try_place.specs.Appended.{appendedOf}
-use Rattle.placing.specs.Rules.{One, nowhere, placed, placeFrom, placeOne}
+use Rattle.packing_rules.specs.Appended.{appendedOf}
+use Rattle.packing_rules.specs.Rules.{One, nowhere, placed, placeFrom, placeOne}
 
 -- the answer is taken apart: a refusal goes on with what else there is
 pub refused-else :

@@ -23,10 +23,11 @@ use Rattle.target_bin.specs.Store.{partAt}
 use Rattle.replies.proofs.Ladders.{fires, passes, all-done, Numbered, none, more, answerOf, first-passes, rest-passes, row-passes, row-fires, AllPass, no-more, and, all-pass}
 use Rattle.target_bin.proofs.Checking.{found-fires, found-passes}
 use Rattle.target_bin.proofs.Passing.{numbered, no-fault, Sound, sound-tables}
-use Rattle.grouped_rects_to_place.specs.Rect.{rectAt, GoodRects}
+use Rattle.grouped_rects_to_place.specs.Rect.{rectAt, GoodRects, rectCount}
 use Rattle.grouped_rects_to_place.specs.Checks.{badRect, repeatedId}
 use Rattle.grouped_rects_to_place.proofs.Checking.{good-rects}
-use Rattle.rectangle_pack.specs.Pack.{rectCount, rectLengthsOk, noRoom, rectChecks, packChecks}
+use Rattle.rectangle_pack.specs.Pack.{rectLengthsOk, rectChecks, packChecks}
+use Rattle.packing_rules.specs.Packing.{noRoom}
 use Rattle.rectangle_pack.specs.Leaning.{SmallChambers, Ready, Passed}
 
 -- ---- 1
