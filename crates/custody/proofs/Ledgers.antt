@@ -15,10 +15,10 @@ use Rattle.bin_section.specs.declared.section.BinSection.{BinSection}
 use Rattle.bin_section.specs.declared.width_height_depth.WidthHeightDepth.{WidthHeightDepth}
 use Rattle.bin_section.specs.Section.{section}
 use Rattle.sections.proofs.Chunks.{joined-part}
-use Rattle.grouped_rects_to_place.specs.Rect.{rectAt}
-use Rattle.rectangle_pack.specs.Seats.{Seat, unplaced, seat, seatWords, placementsOf}
+use Rattle.grouped_rects_to_place.specs.Rect.{rectAt, rectCount}
+use Rattle.packing_rules.specs.Seats.{Seat, unplaced, seat}
+use Rattle.rectangle_pack.specs.Records.{seatWords, placementsOf}
 use Rattle.rectangle_pack.proofs.Tables.{seat-long}
-use Rattle.rectangle_pack.specs.Pack.{rectCount}
 use Rattle.custody.specs.Ledger.{placedIn, boxOf, newBoxes, In, first, later, sameBox, takenOut}
 use Rattle.custody.proofs.Totals.{total, total-picked}
 use Rattle.custody.proofs.Seating.{seatWeight, seatTotal}

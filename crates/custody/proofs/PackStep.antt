@@ -13,7 +13,7 @@ use lib.ListN.{length, getD, replicate, getD-replicate}
 use Rattle.lists.specs.Sort.{Each, none, also}
 use Rattle.lists.proofs.Flags.{cond-yes, cond-no, and-first, and-second, or-none}
 use Rattle.lists.proofs.Lowests.{None}
-use Rattle.lists.proofs.Sorts.{each-map, sort-each}
+use Rattle.lists.proofs.Sorts.{each-map, sort-each, each-tab}
 use Rattle.replies.specs.declared.reply.Reply.{Reply}
 use Rattle.bin_section.specs.declared.section.BinSection.{BinSection}
 use Rattle.bin_section.specs.declared.width_height_depth.WidthHeightDepth.{WidthHeightDepth}
@@ -23,7 +23,6 @@ use Rattle.cells.specs.Whole.{Whole}
 use Rattle.cells.proofs.Grid.{has}
 use Rattle.cells.proofs.Held.{held, held-append, whole-same}
 use Rattle.cells.proofs.Insides.{inside-first, inside-second, inside-both}
-use Rattle.placing.proofs.Reaches.{each-tab}
 use Rattle.target_bin.specs.declared.chamber.TargetBin.{TargetBin}
 use Rattle.target_bin.specs.Chambers.{chamberAt, chamberCount, tableOf}
 use Rattle.target_bin.specs.Store.{freeAt, freeOf, storeOf}
@@ -32,16 +31,17 @@ use Rattle.replies.proofs.Ladders as ordering
 use Rattle.target_bin.proofs.Passing.{SidesInRange}
 use Rattle.target_bin.proofs.Parts.{length-freeOf, getD-freeOf}
 use Rattle.grouped_rects_to_place.specs.declared.rect_to_place.RectToPlace.{RectToPlace}
-use Rattle.grouped_rects_to_place.specs.Rect.{rectAt}
+use Rattle.grouped_rects_to_place.specs.Rect.{rectAt, rectCount}
 use Rattle.grouped_rects_to_place.specs.Checks.{badRect, repeatedId}
 use Rattle.grouped_rects_to_place.specs.Groups.{groupsOf}
-use Rattle.rectangle_pack.specs.Order.{tried, trialOrder}
-use Rattle.rectangle_pack.specs.Seats.{Seat, unplaced, placementsOf}
-use Rattle.rectangle_pack.specs.Packing.{state, Ended}
-use Rattle.rectangle_pack.specs.Pack.{rectCount, rectLengthsOk, noRoom, rectChecks, packChecks, start, packing, binsWith, PackOutcome, packOutcome, written, packOf}
+use Rattle.packing_rules.specs.Order.{tried, trialOrder}
+use Rattle.packing_rules.specs.Seats.{Seat, unplaced}
+use Rattle.rectangle_pack.specs.Records.{placementsOf}
+use Rattle.packing_rules.specs.Packing.{state, Ended, noRoom, start, packing}
+use Rattle.rectangle_pack.specs.Pack.{rectLengthsOk, rectChecks, packChecks, binsWith, PackOutcome, packOutcome, written, packOf}
 use Rattle.rectangle_pack.proofs.Checked.{no-bad, passed}
 use Rattle.rectangle_pack.proofs.Ending.{pack-refused, pack-done}
-use Rattle.rectangle_pack.proofs.Room.{never-overflows}
+use Rattle.packing_rules.proofs.Room.{never-overflows}
 use Rattle.custody.specs.Ledger.{newBoxes, places, afterPack}
 use Rattle.custody.specs.Run.{Hall, hallOf, packed, SameChambers, placedAt}
 use Rattle.custody.proofs.Between.{Good, good-ledger, same-chambers, one-index}

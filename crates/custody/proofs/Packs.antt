@@ -23,13 +23,13 @@ use Rattle.cells.specs.Whole.{Inside}
 use Rattle.cells.proofs.Grid.{has}
 use Rattle.cells.proofs.Held.{held}
 use Rattle.grouped_rects_to_place.specs.declared.rect_to_place.RectToPlace.{RectToPlace}
-use Rattle.placing.specs.Rules.{Trial, stops, whole, placeGroup}
+use Rattle.packing_rules.specs.Rules.{Trial, stops, whole, placeGroup}
 use Rattle.try_place.specs.declared.packed_location.PackedLocation.{PackedLocation}
-use Rattle.rectangle_pack.specs.Seats.{Seat, unplaced, seated}
-use Rattle.rectangle_pack.specs.Packing.{State, state, rectsAt, trialIn, isWhole, firstWhole, changedBy, changed, Ended, ended, packGroups}
-use Rattle.rectangle_pack.proofs.Placings.{group-placings}
-use Rattle.rectangle_pack.proofs.Room.{group-long, rects-long}
-use Rattle.rectangle_pack.proofs.Tables.{length-seated}
+use Rattle.packing_rules.specs.Seats.{Seat, unplaced, seated}
+use Rattle.packing_rules.specs.Packing.{State, state, rectsAt, trialIn, isWhole, firstWhole, changedBy, changed, Ended, ended, packGroups}
+use Rattle.packing_rules.proofs.Placings.{group-placings}
+use Rattle.packing_rules.proofs.Room.{group-long, rects-long}
+use Rattle.packing_rules.proofs.Seats.{length-seated}
 use Rattle.custody.proofs.Placements.{Sided, boxesAt, Kept, group-kept}
 use Rattle.custody.proofs.Totals.{total, held-total, strays, none-strays}
 use Rattle.custody.proofs.Seating.{seatWeight, seatTotal, no-weight, Waiting, Distinct, Disjoint, seated-here, seated-elsewhere, seated-others}

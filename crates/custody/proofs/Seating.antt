@@ -16,8 +16,8 @@ use Rattle.bin_section.specs.declared.width_height_depth.WidthHeightDepth.{Widt
 use Rattle.bin_section.specs.declared.section.BinSection.{BinSection}
 use Rattle.try_place.specs.declared.packed_location.PackedLocation.{PackedLocation}
 use Rattle.grouped_rects_to_place.specs.declared.rect_to_place.RectToPlace.{RectToPlace}
-use Rattle.rectangle_pack.specs.Seats.{Seat, unplaced, seat, seated}
-use Rattle.rectangle_pack.specs.Packing.{rectsAt}
+use Rattle.packing_rules.specs.Seats.{Seat, unplaced, seat, seated}
+use Rattle.packing_rules.specs.Packing.{rectsAt}
 use Rattle.custody.proofs.Placements.{boxAtLocation, boxesAt}
 use Rattle.custody.proofs.Totals.{total, sum-raised}
 

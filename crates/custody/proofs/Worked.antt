@@ -20,7 +20,7 @@ use Rattle.bin_section.specs.Inside.{spanInside, insideOf}
 use Rattle.try_place.specs.Splits.{sixSplits}
 use Rattle.try_place.specs.Choice.{chosen, ranksOf, bestOf, bestFrom, laterOf, betterOf}
 use Rattle.try_place.specs.Try.{fitOf}
-use Rattle.try_place.specs.Appended.{larger, keptOne, kept, appendedOf}
+use Rattle.packing_rules.specs.Appended.{larger, keptOne, kept, appendedOf}
 use Rattle.target_bin.specs.Chambers.{chamberAt, chambersOf, chamberOf}
 use Rattle.target_bin.specs.Checks.{lengthsOk, idOk, shapeOk, chamberOk, badSections}
 use Rattle.target_bin.specs.Store.{partAt, freeAt, freeOf, partOf}
@@ -30,11 +30,11 @@ use Rattle.target_bin.specs.Return.{pushChecks, returnChecks, returned, returnO
 use Rattle.grouped_rects_to_place.specs.Rect.{rectAt}
 use Rattle.grouped_rects_to_place.specs.Checks.{badRect, repeatedId}
 use Rattle.grouped_rects_to_place.specs.Groups.{sameGroup, leadOf, isLead, share, groupVolume, keyWith, comesBefore, earlier, groupOrder, groupsOf}
-use Rattle.placing.specs.Rules.{placeFrom, placeOne, placeAll, placeGroup}
-use Rattle.rectangle_pack.specs.Order as order
-use Rattle.rectangle_pack.specs.Seats.{seated}
-use Rattle.rectangle_pack.specs.Packing.{rectsAt, trialIn, firstWhole, changed, packGroups}
-use Rattle.rectangle_pack.specs.Pack.{rectLengthsOk, noRoom, rectChecks, packChecks, start, packing, binsWith, PackOutcome, packOutcome, written, packOf}
+use Rattle.packing_rules.specs.Rules.{placeFrom, placeOne, placeAll, placeGroup}
+use Rattle.packing_rules.specs.Order as order
+use Rattle.packing_rules.specs.Seats.{seated}
+use Rattle.packing_rules.specs.Packing.{rectsAt, trialIn, firstWhole, changed, packGroups, noRoom, start, packing}
+use Rattle.rectangle_pack.specs.Pack.{rectLengthsOk, rectChecks, packChecks, binsWith, PackOutcome, packOutcome, written, packOf}
 use Rattle.audit.specs.Audit as audit
 use Rattle.custody.specs.Ledger.{placedIn, boxOf, newBoxes, places, Ledger, nothing, afterPack, In, first, sameBox, takenOut, afterReturn}
 use Rattle.custody.specs.Run.{Hall, hallOf, Run, fresh, packs, returns, auditAt, AuditAccepts}

@@ -8,8 +8,7 @@ use Rattle.lists.specs.Pick.{picked}
 use Rattle.replies.specs.declared.reply.Reply.{Reply}
 use Rattle.bin_section.specs.declared.section.BinSection.{BinSection}
 use Rattle.bin_section.specs.Section.{section}
-use Rattle.grouped_rects_to_place.specs.Rect.{rectAt}
-use Rattle.rectangle_pack.specs.Pack.{rectCount}
+use Rattle.grouped_rects_to_place.specs.Rect.{rectAt, rectCount}
 
 -- the boxes placed and not yet taken back, under each chamber id
 abbrev pub Ledger : Type 0

@@ -13,7 +13,7 @@ use Rattle.try_place.specs.Splits.{sixSplits}
 use Rattle.try_place.specs.declared.choice.Ranked.{Ranked}
 use Rattle.try_place.specs.Choice.{chosen, bestOf, betterOf, ranksOf, zeroRanked}
 use Rattle.try_place.specs.Try.{tryOf, numberOf}
-use Rattle.try_place.specs.Appended.{appendedOf}
+use Rattle.packing_rules.specs.Appended.{appendedOf}
 use Rattle.target_bin.specs.Store.{freeOf}
 use Rattle.target_bin.specs.Return.{returnOf}
 use Rattle.rectangle_pack.specs.Pack.{PackOutcome, packOf}

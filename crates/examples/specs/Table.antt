@@ -9,7 +9,7 @@ use Rattle.try_place.specs.Splits.{sixSplits}
 use Rattle.try_place.specs.Choice.{chosen, ranksOf, bestOf, bestFrom, laterOf, betterOf}
 use Rattle.try_place.specs.Try.{spanOk, fitOf, tryOf}
 use Rattle.lists.specs.Sort.{insertBy, insertAll}
-use Rattle.try_place.specs.Appended.{larger, keptOne, kept, appendedOf}
+use Rattle.packing_rules.specs.Appended.{larger, keptOne, kept, appendedOf}
 use Rattle.lists.specs.Lowest.{lowest, anyBelow}
 use Rattle.lists.specs.Pick.{picked}
 use Rattle.lists.specs.Sum.{sumTo}
@@ -27,11 +27,11 @@ use Rattle.target_bin.specs.Return as ret
 use Rattle.grouped_rects_to_place.specs.Rect.{rectAt}
 use Rattle.grouped_rects_to_place.specs.Checks.{badRect, repeatedId}
 use Rattle.grouped_rects_to_place.specs.Groups.{sameGroup, leadOf, isLead, share, groupVolume, keyWith, comesBefore, earlier, groupOrder, groupsOf}
-use Rattle.placing.specs.Rules.{placeFrom, placeOne, placeAll, placeGroup}
-use Rattle.rectangle_pack.specs.Order as order
-use Rattle.rectangle_pack.specs.Seats.{seated}
-use Rattle.rectangle_pack.specs.Packing.{rectsAt, trialIn, firstWhole, changed, packGroups}
-use Rattle.rectangle_pack.specs.Pack.{rectLengthsOk, noRoom, rectChecks, packChecks, start, packing, binsWith, written, packOf}
+use Rattle.packing_rules.specs.Rules.{placeFrom, placeOne, placeAll, placeGroup}
+use Rattle.packing_rules.specs.Order as order
+use Rattle.packing_rules.specs.Seats.{seated}
+use Rattle.packing_rules.specs.Packing.{rectsAt, trialIn, firstWhole, changed, packGroups, noRoom, start, packing}
+use Rattle.rectangle_pack.specs.Pack.{rectLengthsOk, rectChecks, packChecks, binsWith, written, packOf}
 use Rattle.cells.specs.Whole.{volumes}
 use Rattle.audit.specs.Audit as auditing
 use Rattle.examples.specs.Job.{Job, tries, returns, packs, replies, audits, Outcome, saidOf, tied, tried, returned, packed, audited, answered}

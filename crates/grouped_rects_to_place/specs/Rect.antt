@@ -1,5 +1,5 @@
 -- A rectangle and its words in the lent table.
-use Prim.Native.Nat.{ℕ, _+_, _*_, _≤_, _<_}
+use Prim.Native.Nat.{ℕ, _+_, _*_, _/_, _≤_, _<_}
 use mathlib.Core.List.{List}
 use lib.ListN.{length, getD}
 use Rattle.bin_section.specs.Sides.{sides, Small}
@@ -13,6 +13,10 @@ rectAt w i =
       group = getD w (i * 5 + 1) 0;
       whd = sides (getD w (i * 5 + 2) 0) (getD w (i * 5 + 3) 0) (getD w (i * 5 + 4) 0);
     }
+
+-- how many rectangles a table has
+abbrev pub rectCount : List ℕ → ℕ
+rectCount rects = length rects / 5
 
 -- ---- What the code may lean on.
 

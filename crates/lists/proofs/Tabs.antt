@@ -50,6 +50,14 @@ module _ {A : Type 0} where
   getD-append-at : (p q : List A) (n j : ℕ) (d : A) → length p ≡ n → getD (p ++ q) (n + j) d ≡ getD q j d
   getD-append-at p q n j d e = subst (λ (k : ℕ). getD (p ++ q) (k + j) d ≡ getD q j d) e (getD-append-add p q j d)
 
+-- a list of three
+pub three : {A : Type 0} (d : A) (t : List A) → length t ≡ 3 → t ≡ getD t 0 d ∷ getD t 1 d ∷ getD t 2 d ∷ []
+three d [] e = absurd (omega arith)
+three d (a ∷ []) e = absurd (omega arith)
+three d (a ∷ b ∷ []) e = absurd (omega arith)
+three d (a ∷ b ∷ c ∷ []) e = refl
+three d (a ∷ b ∷ c ∷ x ∷ t) e = absurd (omega arith)
+
 -- ---- a part replaced
 
 module _ (w : List ℕ) (at : ℕ) (vs : List ℕ) (fits : at + length vs ≤ length w) where

@@ -25,8 +25,8 @@ use Rattle.try_place.specs.declared.TryAnswer.the-variants.{
 use Rattle.try_place.proofs.TryAnswer.{the-type}
 use Rattle.try_place.specs.declared.Tried as Try
 use Rattle.try_place.specs.Try.{fitOf, onPlaced}
-use Rattle.try_place.specs.Appended.{appendedOf}
-use Rattle.placing.specs.Rules.{One, nowhere, placed, placeFrom, placeOne}
+use Rattle.packing_rules.specs.Appended.{appendedOf}
+use Rattle.packing_rules.specs.Rules.{One, nowhere, placed, placeFrom, placeOne}
 
 -- the answer is taken apart: a refusal goes on with what else there is
 pub refused-else :

@@ -14,11 +14,11 @@ use Rattle.try_place.specs.declared.TryAnswer.the-variants.{Placed}
 use Rattle.try_place.specs.declared.Tried as Try
 use Rattle.try_place.specs.Choice.{SmallBoxes}
 use Rattle.try_place.specs.Try.{Reachable, fitOf}
-use Rattle.try_place.specs.Appended.{appendedOf}
+use Rattle.packing_rules.specs.Appended.{appendedOf}
 use Rattle.try_place.proofs.Remaining.{ThreeWithin, placed-within, placed-three, placed-small}
 use Rattle.placing.specs.declared.place.Spot.the-variants.{At, Nowhere}
 use Rattle.placing.specs.Added.{Replaced}
-use Rattle.placing.specs.Rules.{nowhere, placed}
+use Rattle.packing_rules.specs.Rules.{nowhere, placed}
 use Rattle.placing.specs.Place.{Reaching, PlacedIn}
 use Rattle.placing.proofs.Finding.{Tried, tried-placed, tried-all}
 use Rattle.placing.proofs.Reaches.{still-reaching}

@@ -8,28 +8,17 @@ use lib.Dec.{eqb}
 use lib.ListN.{length, getD}
 use Rattle.lists.specs.Tab.{tab, removeAt}
 use Rattle.lists.specs.Sort.{Each, none, also, sortBy}
-use Rattle.lists.proofs.Sorts.{each-append, each-at, sort-each}
+use Rattle.lists.proofs.Sorts.{each-append, each-at, each-tab, each-remove, sort-each}
+use Rattle.lists.proofs.Tabs.{three}
 use Rattle.bin_section.specs.declared.section.BinSection.{BinSection}
 use Rattle.bin_section.specs.Section.{sectionAt, zeroSection}
 use Rattle.bin_section.specs.Sides.{volumeOf}
 use Rattle.sections.specs.Sections.{sections}
 use Rattle.sections.proofs.Reading.{length-sections, getD-sections}
-use Rattle.try_place.specs.Appended.{larger, keptOne, kept, appendedOf}
+use Rattle.packing_rules.specs.Appended.{larger, keptOne, kept, appendedOf}
 use Rattle.placing.specs.Place.{Reaching}
 use Rattle.try_place.specs.Try.{Reachable}
 use Rattle.try_place.proofs.Remaining.{ThreeWithin, within-reachable}
-
-module _ {A : Type 0} {P : A → Type 0} where
-  pub each-tab : (n : ℕ) (f : ℕ → A) → ((i : ℕ) → i < n → P (f i)) → Each P (tab n f)
-  unfolding tab
-  each-tab zero f h = none
-  each-tab (suc n) f h = also (h 0 (omega arith)) (each-tab n (λ k. f (suc k)) (λ i l. h (suc i) (omega arith)))
-
-  pub each-remove : (i : ℕ) {xs : List A} → Each P xs → Each P (removeAt i xs)
-  unfolding removeAt
-  each-remove i none = none
-  each-remove zero (also p ps) = ps
-  each-remove (suc i) (also p ps) = also p (each-remove i ps)
 
 module _ {P : BinSection → Type 0} where
   kept-one : (t : Bool) (b : BinSection) → P b → Each P (cond t [] (b ∷ []))
@@ -45,16 +34,9 @@ module _ {P : BinSection → Type 0} where
   unfolding appendedOf
   each-appended t p = each-kept (sort-each larger p)
 
-pub three : (t : List BinSection) → length t ≡ 3 → t ≡ getD t 0 zeroSection ∷ getD t 1 zeroSection ∷ getD t 2 zeroSection ∷ []
-three [] e = absurd (omega arith)
-three (a ∷ []) e = absurd (omega arith)
-three (a ∷ b ∷ []) e = absurd (omega arith)
-three (a ∷ b ∷ c ∷ []) e = refl
-three (a ∷ b ∷ c ∷ d ∷ t) e = absurd (omega arith)
-
 within-three : (s : BinSection) (t : List BinSection) → length t ≡ 3 → Reachable s → ThreeWithin s t → Each Reachable t
 within-three s t e p w =
-    rw (three t e)
+    rw (three zeroSection t e)
     (also (within-reachable s _ p (w .first)) (also (within-reachable s _ p (w .second)) (also (within-reachable s _ p (w .third)) none)))
 
 reaching-each : (count : ℕ) (w : List ℕ) → Reaching count w → Each Reachable (sections w count)

@@ -1,3 +1,2 @@
 pub mod Added
-pub mod Rules
 pub mod Place

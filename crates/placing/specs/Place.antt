@@ -11,7 +11,7 @@ use Rattle.try_place.specs.Try.{Reachable}
 use Rattle.placing.specs.declared.place.Placed.{Placed}
 use Rattle.placing.specs.declared.place.Spot.{Spot}
 use Rattle.placing.specs.declared.place.Spot.the-variants.{At, Nowhere}
-use Rattle.placing.specs.Rules.{One, nowhere, placed, placeOne}
+use Rattle.packing_rules.specs.Rules.{One, nowhere, placed, placeOne}
 
 -- each counted section ends at 65,535 at most
 pub record Reaching (count : ℕ) (w : List ℕ) : Type 0 where

@@ -5,7 +5,7 @@ ghost use lib.ListN.{length};
 ghost use Rattle.lists.specs.Tab.{removeAt};
 ghost use Rattle.sections.specs.Sections.{sections};
 ghost use Rattle.try_place.specs.Choice.{SmallBoxes};
-ghost use Rattle.try_place.specs.Appended.{appendedOf};
+ghost use Rattle.packing_rules.specs.Appended.{appendedOf};
 ghost use Rattle.placing.specs.Added.{Replaced};
 ghost use Rattle.placing.specs.Place.{PlacedIn, Reaching};
 use crate::add_new_sections::add_new_sections;

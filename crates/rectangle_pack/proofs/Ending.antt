@@ -9,12 +9,12 @@ use Rattle.replies.specs.Replies.{reply, inOrder}
 use Rattle.target_bin.specs.Chambers.{chamberAt}
 use Rattle.target_bin.specs.Store.{freeOf}
 use Rattle.replies.proofs.Ladders.{AllPass, row-passes, alone-fires, past-all}
-use Rattle.grouped_rects_to_place.specs.Rect.{rectAt}
+use Rattle.grouped_rects_to_place.specs.Rect.{rectAt, rectCount}
 use Rattle.grouped_rects_to_place.specs.Groups.{groupsOf}
-use Rattle.rectangle_pack.specs.Order.{trialOrder}
-use Rattle.rectangle_pack.specs.Packing.{state, packGroups}
-use Rattle.rectangle_pack.specs.Pack.{rectCount, rectChecks, packChecks, start, packing, PackOutcome, packOutcome, written, packOf}
-use Rattle.rectangle_pack.specs.Seats.{unplaced}
+use Rattle.packing_rules.specs.Order.{trialOrder}
+use Rattle.packing_rules.specs.Packing.{state, packGroups, start, packing}
+use Rattle.rectangle_pack.specs.Pack.{rectChecks, packChecks, PackOutcome, packOutcome, written, packOf}
+use Rattle.packing_rules.specs.Seats.{unplaced}
 use Rattle.rectangle_pack.specs.Leaning.{Tidied, GroupsPacked}
 use Rattle.rectangle_pack.proofs.Running.{all-written}
 use Rattle.rectangle_pack.proofs.Tables.{zero-placements}

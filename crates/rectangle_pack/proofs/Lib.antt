@@ -1,15 +1,8 @@
-pub mod Boxes
 pub mod Checked
 pub mod Ending
-pub mod Left
 pub mod Orders
-pub mod Placings
-pub mod Planner
-pub mod Room
 pub mod Running
-pub mod Seating
 pub mod Serving
 pub mod Tables
 pub mod Tidying
 pub mod Trials
-pub mod TrialOrders

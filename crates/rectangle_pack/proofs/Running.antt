@@ -29,10 +29,11 @@ use Rattle.grouped_rects_to_place.specs.Rect.{HasRects}
 use Rattle.grouped_rects_to_place.specs.Groups.{isLead, members, earlier, groupOrder, groupsOf, Listed}
 use Rattle.grouped_rects_to_place.proofs.Grouping.{each-entry}
 use Rattle.grouped_rects_to_place.proofs.Sizes.{total, groups-total, Group, group-of, groups-each}
-use Rattle.rectangle_pack.specs.Order.{trialOrder}
-use Rattle.rectangle_pack.specs.Packing.{State, state, Ended, ended, firstWhole, changed, packGroups}
+use Rattle.packing_rules.specs.Order.{trialOrder}
+use Rattle.packing_rules.specs.Packing.{State, state, Ended, ended, firstWhole, changed, packGroups}
 use Rattle.rectangle_pack.specs.Pack.{binsWith, packOutcome, written}
-use Rattle.rectangle_pack.specs.Seats.{Seat, placementsOf}
+use Rattle.packing_rules.specs.Seats.{Seat}
+use Rattle.rectangle_pack.specs.Records.{placementsOf}
 use Rattle.rectangle_pack.specs.Leaning.{GroupOf, Indices, SameShape, Ready, Clean, Kept, ChangedTo, Grouped, PackedTo, GroupsPacked}
 
 pub same-through : (a b c : List ℕ) → SameShape a b → SameShape b c → SameShape a c

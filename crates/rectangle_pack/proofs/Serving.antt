@@ -21,7 +21,7 @@ use Rattle.sections.specs.Changes.{ZeroPast}
 use Rattle.sections.proofs.Reading.{getD-sections}
 use Rattle.try_place.specs.declared.packed_location.PackedLocation.{PackedLocation}
 use Rattle.placing.specs.Place.{Reaching}
-use Rattle.placing.specs.Rules.{Trial, stops, whole, placeGroup}
+use Rattle.packing_rules.specs.Rules.{Trial, stops, whole, placeGroup}
 use Rattle.target_bin.specs.declared.chamber.TargetBin.{TargetBin}
 use Rattle.target_bin.specs.Chambers.{chamberAt, chamberCount}
 use Rattle.target_bin.specs.Checks.{Shaped}
@@ -31,8 +31,9 @@ use Rattle.target_bin.proofs.Parts.{length-partAt, partAt-put-same, partAt-put-
 use Rattle.target_bin.proofs.Tables.{chamberAt-set-same, chamberAt-set-other}
 use Rattle.grouped_rects_to_place.specs.declared.rect_to_place.RectToPlace.{RectToPlace}
 use Rattle.grouped_rects_to_place.specs.Rect.{rectAt}
-use Rattle.rectangle_pack.specs.Packing.{state, rectsAt, trialIn, isWhole, firstWhole, changedBy, changed}
-use Rattle.rectangle_pack.specs.Seats.{Seat, placementsOf, seated}
+use Rattle.packing_rules.specs.Packing.{state, rectsAt, trialIn, isWhole, firstWhole, changedBy, changed}
+use Rattle.packing_rules.specs.Seats.{Seat, seated}
+use Rattle.rectangle_pack.specs.Records.{placementsOf}
 use Rattle.rectangle_pack.specs.Leaning.{Enough, GroupOf, Committed, Indices, SameShape, Ready, Clean, Kept, ChangedTo, Served, Grouped}
 
 -- ---- a chamber's part, as the tables say

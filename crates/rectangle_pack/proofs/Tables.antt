@@ -10,7 +10,8 @@ use lib.Seq.{take-suc-set, take-suc, take-set-le, take-all, take-append-add, dro
 use Rattle.lists.specs.Tab.{put}
 use Rattle.sections.specs.Sections.{sections, joined, allWords}
 use Rattle.sections.proofs.Reading.{length-sections, encoded, decoded}
-use Rattle.rectangle_pack.specs.Seats.{Seat, unplaced, seat, seatWords, placementsOf, seated}
+use Rattle.packing_rules.specs.Seats.{Seat, unplaced, seat, seated}
+use Rattle.rectangle_pack.specs.Records.{seatWords, placementsOf}
 use Rattle.try_place.specs.declared.packed_location.PackedLocation.{PackedLocation}
 
 -- ---- the first i words copied
@@ -132,20 +133,3 @@ zero-placements zero = refl
 zero-placements (suc n) =
     let e : suc n * 5 ≡ suc (suc (suc (suc (suc (n * 5))))) = omega arith in
     rw e (ap (λ (l : List ℕ). 0 ∷ 0 ∷ 0 ∷ 0 ∷ 0 ∷ l) (zero-placements n))
-
-pub length-seated : (id : ℕ) (is : List ℕ) (ls : List PackedLocation) (seats : List Seat) → length (seated id is ls seats) ≡ length seats
-unfolding seated
-length-seated id [] ls seats = refl
-length-seated id (i ∷ is) [] seats = refl
-length-seated id (i ∷ is) (l ∷ ls) seats = length-seated id is ls (set seats i (seat id l)) ∙ length-set seats i (seat id l)
-
--- one rectangle more takes its seat
-pub seated-more :
-    (id i : ℕ) (is : List ℕ) (l : PackedLocation) (ls : List PackedLocation) (seats : List Seat)
-    → length is ≡ length ls
-    → seated id (is ++ (i ∷ [])) (ls ++ (l ∷ [])) seats ≡ set (seated id is ls seats) i (seat id l)
-unfolding seated
-seated-more id i [] l [] seats e = refl
-seated-more id i [] l (m ∷ ls) seats e = absurd (omega arith)
-seated-more id i (j ∷ is) l [] seats e = absurd (omega arith)
-seated-more id i (j ∷ is) l (m ∷ ls) seats e = seated-more id i is l ls (set seats j (seat id m)) (omega arith)

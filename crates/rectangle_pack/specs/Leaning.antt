@@ -10,7 +10,7 @@ use Rattle.sections.specs.Sections.{sections}
 use Rattle.sections.specs.Changes.{ZeroPast}
 use Rattle.try_place.specs.declared.packed_location.PackedLocation.{PackedLocation}
 use Rattle.placing.specs.Place.{Reaching}
-use Rattle.placing.specs.Rules.{whole, placeGroup}
+use Rattle.packing_rules.specs.Rules.{whole, placeGroup}
 use mathlib.Core.Bool.{Bool, true, false}
 use lib.Dec.{ltb}
 use Rattle.target_bin.specs.Chambers.{chamberAt, chamberCount}
@@ -18,12 +18,12 @@ use Rattle.target_bin.specs.Checks.{Shaped}
 use Rattle.target_bin.specs.Store.{partAt, freeOf}
 use Rattle.grouped_rects_to_place.specs.declared.rect_to_place.RectToPlace.{RectToPlace}
 use Rattle.replies.specs.declared.reply.Reply.{Reply}
-use Rattle.grouped_rects_to_place.specs.Rect.{rectAt, GoodRects}
-use Rattle.rectangle_pack.specs.Packing.{State, state, rectsAt, trialIn, isWhole, firstWhole, changed, Ended, packGroups}
-use Rattle.rectangle_pack.specs.Order.{trialOrder}
+use Rattle.grouped_rects_to_place.specs.Rect.{rectAt, GoodRects, rectCount}
+use Rattle.packing_rules.specs.Packing.{State, state, rectsAt, trialIn, isWhole, firstWhole, changed, Ended, packGroups}
+use Rattle.packing_rules.specs.Order.{trialOrder}
 use Rattle.grouped_rects_to_place.specs.Groups.{groupsOf}
-use Rattle.rectangle_pack.specs.Pack.{rectCount}
-use Rattle.rectangle_pack.specs.Seats.{Seat, seated, placementsOf}
+use Rattle.packing_rules.specs.Seats.{Seat, seated}
+use Rattle.rectangle_pack.specs.Records.{placementsOf}
 
 -- no side of a chamber is above 65,535
 pub record SmallChambers (chambers : List ℕ) : Type 0 where

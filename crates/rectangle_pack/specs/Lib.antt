@@ -1,6 +1,3 @@
-pub mod Order
-pub mod Seats
-pub mod Packing
+pub mod Records
 pub mod Pack
 pub mod Leaning
-pub mod Promises

@@ -1,36 +1,26 @@
 -- Pack: its checks in their order, and what it leaves in every lent table.
-use Prim.Native.Nat.{ℕ, _+_, _*_, _/_, _%_}
+use Prim.Native.Nat.{ℕ, _*_, _%_}
 use mathlib.Core.List.{List, [], _∷_, _++_}
 use mathlib.Core.Bool.{Bool, _&&_, not}
-use lib.Dec.{ltb, leb, eqb}
-use lib.ListN.{length, getD, replicate}
+use lib.Dec.{leb, eqb}
+use lib.ListN.{length, getD}
 use Rattle.lists.specs.Tab.{tab}
 use Rattle.replies.specs.declared.reply.Reply.{Reply}
 use Rattle.bin_section.specs.declared.section.BinSection.{BinSection}
 use Rattle.replies.specs.Replies.{Check, once, each, inOrder, reply}
 use Rattle.target_bin.specs.declared.chamber.TargetBin.{TargetBin}
 use Rattle.target_bin.specs.Chambers.{bin, chamberAt, chamberCount, tableOf}
-use Rattle.target_bin.specs.Store.{freeOf, storeOf}
+use Rattle.target_bin.specs.Store.{storeOf}
 use Rattle.target_bin.specs.Checks.{tableChecks}
-use Rattle.grouped_rects_to_place.specs.Rect.{rectAt}
+use Rattle.grouped_rects_to_place.specs.Rect.{rectAt, rectCount}
 use Rattle.grouped_rects_to_place.specs.Checks.{badRect, repeatedId}
-use Rattle.grouped_rects_to_place.specs.Groups.{groupsOf}
-use Rattle.rectangle_pack.specs.Order.{trialOrder}
-use Rattle.rectangle_pack.specs.Seats.{Seat, unplaced, placementsOf}
-use Rattle.rectangle_pack.specs.Packing.{State, state, Ended, packGroups}
-
--- how many rectangles a table has
-abbrev pub rectCount : List ℕ → ℕ
-rectCount rects = length rects / 5
+use Rattle.packing_rules.specs.Packing.{Ended, packing, noRoom}
+use Rattle.rectangle_pack.specs.Records.{placementsOf}
 
 -- 1: "Rectangle record, 5 words", "At most 63 in a call", and the placement table is "5 words a rectangle"
 unfoldable pub rectLengthsOk : List ℕ → List ℕ → Bool
 rectLengthsOk rects placements =
     eqb (length rects % 5) 0 && (leb (rectCount rects) 63 && eqb (length placements) (rectCount rects * 5))
-
--- 6: "free count + 2 x rectangles of the call is above 128"
-unfoldable pub noRoom : List ℕ → ℕ → ℕ → Bool
-noRoom chambers n k = ltb 128 (chamberAt chambers k .count + 2 * n)
 
 -- "Pack: 1 to 7." The seventh is the packing itself. Check 1 has two halves, the rectangles' tables and the chambers'.
 unfoldable pub rectChecks : List ℕ → List ℕ → List (Check Reply)
@@ -43,16 +33,6 @@ rectChecks chambers rects =
 unfoldable pub packChecks : List ℕ → List ℕ → List ℕ → List ℕ → List (Check Reply)
 packChecks chambers store rects placements =
     once (reply 1 0) (not (rectLengthsOk rects placements)) ∷ (tableChecks chambers store ++ rectChecks chambers rects)
-
--- the free sections as they are lent, and every rectangle unplaced
-unfoldable pub start : List ℕ → List ℕ → List ℕ → State
-start chambers store rects = state (freeOf chambers store) (replicate (rectCount rects) unplaced)
-
--- the packing of the groups in their order
-unfoldable pub packing : List ℕ → List ℕ → List ℕ → Ended
-packing chambers store rects =
-    packGroups (trialOrder chambers) (λ k. chamberAt chambers k .id) (rectAt rects) (groupsOf (rectCount rects) (rectAt rects))
-    (start chambers store rects)
 
 -- the chamber records, with the counts of the free sections
 unfoldable pub binsWith : List ℕ → List (List BinSection) → List TargetBin

@@ -5,7 +5,7 @@ ghost use lib.ListN.{length, take};
 ghost use Rattle.target_bin.specs.Chambers.{chamberCount};
 ghost use Rattle.target_bin.specs.Store.{freeOf};
 ghost use Rattle.grouped_rects_to_place.specs.Rect.{rectAt};
-ghost use Rattle.rectangle_pack.specs.Packing.{trialIn, isWhole, firstWhole};
+ghost use Rattle.packing_rules.specs.Packing.{trialIn, isWhole, firstWhole};
 ghost use Rattle.rectangle_pack.specs.Leaning.{GroupOf, Indices, Ready, Served, Grouped};
 use crate::trial::commit;
 use crate::trial::copy_sections;

@@ -3,7 +3,8 @@ ghost use mathlib.Core.Path.{_≡_};
 ghost use Prim.Native.Nat.{_+_, _*_, _≤_};
 ghost use lib.ListN.{length, replicate};
 ghost use Rattle.lists.specs.Tab.{put};
-ghost use Rattle.rectangle_pack.specs.Seats.{seatWords, seat, placementsOf};
+ghost use Rattle.rectangle_pack.specs.Records.{seatWords, placementsOf};
+ghost use Rattle.packing_rules.specs.Seats.{seat};
 use try_place::PackedLocation;
 
 // The words of a placement record, and what its first word says of a placed rectangle.

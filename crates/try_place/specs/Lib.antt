@@ -1,4 +1,3 @@
 pub mod Splits
 pub mod Choice
 pub mod Try
-pub mod Appended

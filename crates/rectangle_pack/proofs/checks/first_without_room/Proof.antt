@@ -3,7 +3,7 @@ use Rattle.rectangle_pack.proofs.Checked.{too-little, room-left}
 use Rattle.lists.proofs.Lowests.{None, none-zero, none-more, lowest-here, lowest-end}
 use Rattle.target_bin.specs.declared.chamber.TargetBin.{TargetBin}
 use Rattle.target_bin.specs.Chambers.{chamberAt, chamberCount}
-use Rattle.rectangle_pack.specs.Pack.{noRoom}
+use Rattle.packing_rules.specs.Packing.{noRoom}
 use Rattle.rectangle_pack.proofs.checks.first_without_room as it
 
 abbrev Inv-loop : it.Tie.InvT-loop

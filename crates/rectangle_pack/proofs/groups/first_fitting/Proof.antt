@@ -2,7 +2,7 @@ use Rattle.lists.proofs.Kit.{needs, _-_, _≤_, _≡_, refl, sym, _∙_, arith,
 use Rattle.lists.proofs.Lowests.{None, none-zero, none-more}
 use Rattle.target_bin.specs.Store.{freeOf}
 use Rattle.grouped_rects_to_place.specs.Rect.{rectAt}
-use Rattle.rectangle_pack.specs.Packing.{trialIn, isWhole}
+use Rattle.packing_rules.specs.Packing.{trialIn, isWhole}
 use Rattle.rectangle_pack.proofs.Serving.{whole-here, whole-nowhere}
 use Rattle.rectangle_pack.proofs.groups.first_fitting as it
 

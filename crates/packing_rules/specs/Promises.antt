@@ -10,10 +10,10 @@ use Rattle.bin_section.specs.declared.section.BinSection.{BinSection}
 use Rattle.replies.specs.Replies.{reply}
 use Rattle.bin_section.specs.Section.{section, zeroSection}
 use Rattle.try_place.specs.declared.packed_location.PackedLocation.{PackedLocation}
-use Rattle.placing.specs.Rules.{stops}
+use Rattle.packing_rules.specs.Rules.{stops}
 use Rattle.grouped_rects_to_place.specs.declared.rect_to_place.RectToPlace.{RectToPlace}
-use Rattle.rectangle_pack.specs.Seats.{Seat, unplaced, seat}
-use Rattle.rectangle_pack.specs.Packing.{State, trialIn, isWhole, ended, packGroups}
+use Rattle.packing_rules.specs.Seats.{Seat, unplaced, seat}
+use Rattle.packing_rules.specs.Packing.{State, trialIn, isWhole, ended, packGroups}
 
 -- a section fits a rectangle that is not "wider, taller, deeper than the section"
 pub record Fits (s : BinSection) (r : RectToInsert) : Type 0 where

@@ -11,20 +11,19 @@ use Rattle.lists.specs.Sort.{Each, none, also, EachTwo, no-two, also-two}
 use Rattle.lists.proofs.Flags.{true-false}
 use Rattle.lists.proofs.Sorts.{each-map, each-both}
 use Rattle.try_place.specs.declared.packed_location.PackedLocation.{PackedLocation}
-use Rattle.placing.specs.Rules.{Trial, stops, whole, placeGroup}
+use Rattle.packing_rules.specs.Rules.{Trial, stops, whole, placeGroup}
 use Rattle.target_bin.specs.Chambers.{chamberAt}
 use Rattle.grouped_rects_to_place.specs.declared.rect_to_place.RectToPlace.{RectToPlace}
-use Rattle.grouped_rects_to_place.specs.Rect.{rectAt}
+use Rattle.grouped_rects_to_place.specs.Rect.{rectAt, rectCount}
 use Rattle.grouped_rects_to_place.specs.Groups.{groupsOf}
 use Rattle.grouped_rects_to_place.proofs.Sizes.{Group, groups-each, Disjoint, groups-disjoint}
-use Rattle.rectangle_pack.specs.Order.{trialOrder}
-use Rattle.rectangle_pack.specs.Seats.{Seat, unplaced, seat, seated}
-use Rattle.rectangle_pack.specs.Packing.{State, rectsAt, trialIn, isWhole, changedBy, changed, Ended, packGroups}
-use Rattle.rectangle_pack.specs.Pack.{rectCount, start, packing}
-use Rattle.rectangle_pack.specs.Promises.{Serves, NoneServes, WholeOrNowhere, in-one, in-none}
-use Rattle.rectangle_pack.proofs.Room.{group-long, rects-long}
-use Rattle.rectangle_pack.proofs.Left.{changed-long}
-use Rattle.rectangle_pack.proofs.Planner.{serves-or-not, turn-served, turn-refused, no-turn}
+use Rattle.packing_rules.specs.Order.{trialOrder}
+use Rattle.packing_rules.specs.Seats.{Seat, unplaced, seat, seated}
+use Rattle.packing_rules.specs.Packing.{State, rectsAt, trialIn, isWhole, changedBy, changed, Ended, packGroups, start, packing}
+use Rattle.packing_rules.specs.Promises.{Serves, NoneServes, WholeOrNowhere, in-one, in-none}
+use Rattle.packing_rules.proofs.Room.{group-long, rects-long}
+use Rattle.packing_rules.proofs.Left.{changed-long}
+use Rattle.packing_rules.proofs.Planner.{serves-or-not, turn-served, turn-refused, no-turn}
 
 -- ---- seats taken
 

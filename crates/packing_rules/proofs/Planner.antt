@@ -19,17 +19,16 @@ use Rattle.replies.specs.Replies.{reply}
 use Rattle.bin_section.specs.Section.{zeroSection}
 use Rattle.try_place.specs.declared.packed_location.PackedLocation.{PackedLocation}
 use Rattle.try_place.proofs.Remaining.{Within}
-use Rattle.placing.specs.Rules.{One, nowhere, placed, placeOne, Trial, stops, whole, afterOne, placeAll, placeGroup}
+use Rattle.packing_rules.specs.Rules.{One, nowhere, placed, placeOne, Trial, stops, whole, afterOne, placeAll, placeGroup}
 use Rattle.target_bin.specs.Chambers.{chamberAt}
 use Rattle.grouped_rects_to_place.specs.declared.rect_to_place.RectToPlace.{RectToPlace}
-use Rattle.grouped_rects_to_place.specs.Rect.{rectAt}
+use Rattle.grouped_rects_to_place.specs.Rect.{rectAt, rectCount}
 use Rattle.grouped_rects_to_place.specs.Groups.{groupsOf}
 use Rattle.grouped_rects_to_place.proofs.Sizes.{Group, groups-each, ungrouped-alone}
-use Rattle.rectangle_pack.specs.Order.{trialOrder}
-use Rattle.rectangle_pack.specs.Packing.{State, rectsAt, trialIn, isWhole, firstWhole, changed, Ended, ended, packGroups}
-use Rattle.rectangle_pack.specs.Pack.{rectCount, start, packing}
-use Rattle.rectangle_pack.specs.Promises.{Fits, NoSectionFits, Serves, NoneServes, RefusedAt, boxAt}
-use Rattle.rectangle_pack.proofs.Placings.{PlacedAt, placed-at, nowhere-at}
+use Rattle.packing_rules.specs.Order.{trialOrder}
+use Rattle.packing_rules.specs.Packing.{State, rectsAt, trialIn, isWhole, firstWhole, changed, Ended, ended, packGroups, start, packing}
+use Rattle.packing_rules.specs.Promises.{Fits, NoSectionFits, Serves, NoneServes, RefusedAt, boxAt}
+use Rattle.packing_rules.proofs.Placings.{PlacedAt, placed-at, nowhere-at}
 
 -- ---- a turn
 

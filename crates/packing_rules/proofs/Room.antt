@@ -26,19 +26,18 @@ use Rattle.try_place.specs.declared.Tried.{Tried}
 use Rattle.try_place.specs.Splits.{sixSplits}
 use Rattle.try_place.specs.Choice.{chosen}
 use Rattle.try_place.specs.Try.{fitOf}
-use Rattle.try_place.specs.Appended.{larger, keptOne, kept, appendedOf}
-use Rattle.placing.specs.Rules.{placed, placeOne, Trial, stops, whole, placeGroup}
+use Rattle.packing_rules.specs.Appended.{larger, keptOne, kept, appendedOf}
+use Rattle.packing_rules.specs.Rules.{placed, placeOne, Trial, stops, whole, placeGroup}
 use Rattle.target_bin.specs.Chambers.{chamberAt, chamberCount}
 use Rattle.target_bin.specs.Store.{partAt, freeAt, freeOf}
 use Rattle.grouped_rects_to_place.specs.declared.rect_to_place.RectToPlace.{RectToPlace}
-use Rattle.grouped_rects_to_place.specs.Rect.{rectAt}
+use Rattle.grouped_rects_to_place.specs.Rect.{rectAt, rectCount}
 use Rattle.grouped_rects_to_place.specs.Groups.{groupsOf}
 use Rattle.grouped_rects_to_place.proofs.Sizes.{total, groups-total}
-use Rattle.rectangle_pack.specs.Order.{trialOrder}
-use Rattle.rectangle_pack.specs.Packing.{State, rectsAt, trialIn, firstWhole, changedBy, changed, ended, packGroups}
-use Rattle.rectangle_pack.specs.Pack.{rectCount, noRoom, start, packing}
-use Rattle.rectangle_pack.specs.Promises.{Fits}
-use Rattle.rectangle_pack.proofs.Placings.{PlacedAt, Placings, no-more, then, fit-is, placed-at, group-placings}
+use Rattle.packing_rules.specs.Order.{trialOrder}
+use Rattle.packing_rules.specs.Packing.{State, rectsAt, trialIn, firstWhole, changedBy, changed, ended, packGroups, noRoom, start, packing}
+use Rattle.packing_rules.specs.Promises.{Fits}
+use Rattle.packing_rules.proofs.Placings.{PlacedAt, Placings, no-more, then, fit-is, placed-at, group-placings}
 
 -- ---- one rectangle
 

@@ -1,17 +1,22 @@
 -- "Packing": groups in their order, each into the first chamber where all of it fits.
-use Prim.Native.Nat.{ℕ}
+use Prim.Native.Nat.{ℕ, _+_, _*_}
 use mathlib.Core.List.{List, [], _∷_, map}
 use mathlib.Core.Bool.{Bool, true, false, cond}
 use lib.Dec.{ltb}
-use lib.ListN.{length, getD, set}
+use lib.ListN.{length, getD, set, replicate}
 use Rattle.lists.specs.Lowest.{lowest}
 use Rattle.replies.specs.declared.reply.Reply.{Reply}
 use Rattle.bin_section.specs.declared.rect_to_insert.RectToInsert.{RectToInsert}
 use Rattle.bin_section.specs.declared.section.BinSection.{BinSection}
 use Rattle.replies.specs.Replies.{reply}
+use Rattle.target_bin.specs.Chambers.{chamberAt}
+use Rattle.target_bin.specs.Store.{freeOf}
 use Rattle.grouped_rects_to_place.specs.declared.rect_to_place.RectToPlace.{RectToPlace}
-use Rattle.placing.specs.Rules.{Trial, stops, whole, placeGroup}
-use Rattle.rectangle_pack.specs.Seats.{Seat, seated}
+use Rattle.grouped_rects_to_place.specs.Rect.{rectAt, rectCount}
+use Rattle.grouped_rects_to_place.specs.Groups.{groupsOf}
+use Rattle.packing_rules.specs.Order.{trialOrder}
+use Rattle.packing_rules.specs.Rules.{Trial, stops, whole, placeGroup}
+use Rattle.packing_rules.specs.Seats.{Seat, unplaced, seated}
 
 -- the free sections of each chamber, and the seat of each rectangle
 pub record State : Type 0 where
@@ -59,3 +64,19 @@ packGroups order ids r (group ∷ groups) s =
     let t = firstWhole order r group (s .frees) in
     let k = getD order t 0 in
     cond (ltb t (length order)) (packGroups order ids r groups (changed r (ids k) k group s)) (ended (reply 7 (getD group 0 0)) s)
+
+-- ---- From lent tables.
+
+-- the free sections as they are lent, and every rectangle unplaced
+unfoldable pub start : List ℕ → List ℕ → List ℕ → State
+start chambers store rects = state (freeOf chambers store) (replicate (rectCount rects) unplaced)
+
+-- the packing of the groups in their order
+unfoldable pub packing : List ℕ → List ℕ → List ℕ → Ended
+packing chambers store rects =
+    packGroups (trialOrder chambers) (λ k. chamberAt chambers k .id) (rectAt rects) (groupsOf (rectCount rects) (rectAt rects))
+    (start chambers store rects)
+
+-- 6: "free count + 2 x rectangles of the call is above 128", so that the packing could overflow the store
+unfoldable pub noRoom : List ℕ → ℕ → ℕ → Bool
+noRoom chambers n k = ltb 128 (chamberAt chambers k .count + 2 * n)

@@ -14,7 +14,7 @@ use lib.Seq.{getD-set-same, getD-set-other, set-out}
 use Rattle.lists.specs.Sort.{Each, none, also}
 use Rattle.lists.proofs.Flags.{and-first, and-second}
 use Rattle.lists.proofs.Lowests.{None}
-use Rattle.lists.proofs.Sorts.{each-map, each-at}
+use Rattle.lists.proofs.Sorts.{each-map, each-at, each-tab}
 use Rattle.lists.proofs.Tabs.{getD-tab}
 use Rattle.bin_section.specs.declared.section.BinSection.{BinSection}
 use Rattle.bin_section.specs.declared.rect_to_insert.RectToInsert.{RectToInsert}
@@ -26,24 +26,22 @@ use Rattle.bin_section.specs.Inside.{Inside}
 use Rattle.try_place.specs.declared.packed_location.PackedLocation.{PackedLocation}
 use Rattle.try_place.specs.Try.{Reachable}
 use Rattle.try_place.proofs.Remaining.{Within}
-use Rattle.placing.specs.Rules.{Trial, stops, whole, placeGroup}
-use Rattle.placing.proofs.Reaches.{each-tab}
+use Rattle.packing_rules.specs.Rules.{Trial, stops, whole, placeGroup}
 use Rattle.target_bin.specs.Chambers.{chamberAt, chamberCount}
 use Rattle.target_bin.specs.Store.{partAt, freeAt, freeOf}
 use Rattle.target_bin.proofs.Passing.{ShapesSound, AllInside}
 use Rattle.grouped_rects_to_place.specs.declared.rect_to_place.RectToPlace.{RectToPlace}
 use Rattle.grouped_rects_to_place.specs.Checks.{badRect}
-use Rattle.grouped_rects_to_place.specs.Rect.{rectAt}
+use Rattle.grouped_rects_to_place.specs.Rect.{rectAt, rectCount}
 use Rattle.grouped_rects_to_place.proofs.Sizes.{Group, groups-each}
-use Rattle.rectangle_pack.specs.Order.{trialOrder}
-use Rattle.rectangle_pack.specs.Seats.{Seat, unplaced, seat, seated}
-use Rattle.rectangle_pack.specs.Packing.{State, rectsAt, trialIn, changedBy, changed, packGroups}
-use Rattle.rectangle_pack.specs.Pack.{rectCount, start, packing}
-use Rattle.rectangle_pack.specs.Promises.{Serves, NoneServes, boxAt, BoxesAre}
-use Rattle.rectangle_pack.proofs.Placings.{Placings, no-more, then, group-placings}
-use Rattle.rectangle_pack.proofs.Left.{Solid, one-left, EachFree, left-step, inside-reachable, inside-passes, chambers-small}
-use Rattle.rectangle_pack.proofs.Planner.{serves-or-not, turn-served, turn-refused, no-turn, placed-inside}
-use Rattle.rectangle_pack.proofs.TrialOrders.{trial-below}
+use Rattle.packing_rules.specs.Order.{trialOrder}
+use Rattle.packing_rules.specs.Seats.{Seat, unplaced, seat, seated}
+use Rattle.packing_rules.specs.Packing.{State, rectsAt, trialIn, changedBy, changed, packGroups, start, packing}
+use Rattle.packing_rules.specs.Promises.{Serves, NoneServes, boxAt, BoxesAre}
+use Rattle.packing_rules.proofs.Placings.{Placings, no-more, then, group-placings}
+use Rattle.packing_rules.proofs.Left.{Solid, one-left, EachFree, left-step, inside-reachable, inside-passes, chambers-small}
+use Rattle.packing_rules.proofs.Planner.{serves-or-not, turn-served, turn-refused, no-turn, placed-inside}
+use Rattle.packing_rules.proofs.TrialOrders.{trial-below}
 
 -- ---- a group
 

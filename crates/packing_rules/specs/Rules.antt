@@ -8,7 +8,7 @@ use Rattle.bin_section.specs.declared.rect_to_insert.RectToInsert.{RectToInsert
 use Rattle.bin_section.specs.Section.{zeroSection}
 use Rattle.try_place.specs.declared.packed_location.PackedLocation.{PackedLocation}
 use Rattle.try_place.specs.Try.{fitOf, onPlaced}
-use Rattle.try_place.specs.Appended.{appendedOf}
+use Rattle.packing_rules.specs.Appended.{appendedOf}
 
 -- one rectangle: no free section fits it, or where it goes and what is free afterwards
 pub data One : Type 0 where

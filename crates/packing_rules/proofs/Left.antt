@@ -10,8 +10,8 @@ use borrow.Author.Tests.{eqb-false}
 use lib.Dec.{ltb, eqb}
 use lib.ListN.{length, getD, set, length-set}
 use Rattle.lists.specs.Sort.{Each, none, also}
-use Rattle.lists.proofs.Tabs.{getD-tab}
-use Rattle.lists.proofs.Sorts.{each-map, each-append, each-at, sort-each}
+use Rattle.lists.proofs.Tabs.{getD-tab, three}
+use Rattle.lists.proofs.Sorts.{each-map, each-append, each-at, sort-each, each-tab, each-remove}
 use Rattle.bin_section.specs.declared.section.BinSection.{BinSection}
 use Rattle.bin_section.specs.declared.rect_to_insert.RectToInsert.{RectToInsert}
 use Rattle.bin_section.specs.declared.width_height_depth.WidthHeightDepth.{WidthHeightDepth}
@@ -24,22 +24,20 @@ use Rattle.try_place.specs.declared.packed_location.PackedLocation.{PackedLocat
 use Rattle.try_place.specs.declared.TryAnswer.the-variants.{Placed}
 use Rattle.try_place.specs.declared.Tried.{Tried}
 use Rattle.try_place.specs.Try.{Reachable, fitOf}
-use Rattle.try_place.specs.Appended.{larger, keptOne, kept, appendedOf}
+use Rattle.packing_rules.specs.Appended.{larger, keptOne, kept, appendedOf}
 use Rattle.try_place.proofs.Remaining.{Within, ThreeWithin, within-reachable, placed-within, placed-three}
-use Rattle.placing.specs.Rules.{placed, placeOne, Trial, stops, whole, placeGroup}
-use Rattle.placing.proofs.Reaches.{each-tab, each-remove, three}
+use Rattle.packing_rules.specs.Rules.{placed, placeOne, Trial, stops, whole, placeGroup}
 use Rattle.grouped_rects_to_place.specs.declared.rect_to_place.RectToPlace.{RectToPlace}
-use Rattle.grouped_rects_to_place.specs.Rect.{rectAt}
+use Rattle.grouped_rects_to_place.specs.Rect.{rectAt, rectCount}
 use Rattle.grouped_rects_to_place.specs.Groups.{groupsOf}
 use Rattle.target_bin.specs.Chambers.{chamberAt, chamberCount}
 use Rattle.target_bin.specs.Store.{partAt, freeAt, freeOf}
 use Rattle.target_bin.proofs.Passing.{ShapesSound, AllInside}
-use Rattle.rectangle_pack.specs.Order.{trialOrder}
-use Rattle.rectangle_pack.specs.Pack.{rectCount, start, packing}
-use Rattle.rectangle_pack.specs.Seats.{Seat, seat, seated}
-use Rattle.rectangle_pack.specs.Packing.{State, rectsAt, trialIn, firstWhole, changedBy, changed, ended, packGroups}
-use Rattle.rectangle_pack.proofs.Placings.{PlacedAt, Placings, no-more, then, locationIn, fit-is, placed-at, group-placings}
-use Rattle.rectangle_pack.proofs.Room.{Frees, frees-step}
+use Rattle.packing_rules.specs.Order.{trialOrder}
+use Rattle.packing_rules.specs.Packing.{start, packing, State, rectsAt, trialIn, firstWhole, changedBy, changed, ended, packGroups}
+use Rattle.packing_rules.specs.Seats.{Seat, seat, seated}
+use Rattle.packing_rules.proofs.Placings.{PlacedAt, Placings, no-more, then, locationIn, fit-is, placed-at, group-placings}
+use Rattle.packing_rules.proofs.Room.{Frees, frees-step}
 
 -- "zero volumes left out"
 abbrev pub Solid : BinSection → Type 0
@@ -67,7 +65,7 @@ parts-within :
     → Each (Within s) (fitOf s r .sections)
 parts-within s r p e =
     let w : ThreeWithin s (fitOf s r .sections) = placed-within s r (locationIn s r) p e in
-    rw (three (fitOf s r .sections) (placed-three s r (locationIn s r) p e))
+    rw (three zeroSection (fitOf s r .sections) (placed-three s r (locationIn s r) p e))
     (also (w .first) (also (w .second) (also (w .third) none)))
 
 -- a fact of sections that passes on to each box within them that has no zero volume: it passes on to all that is left free

@@ -13,10 +13,10 @@ use Rattle.bin_section.specs.declared.rect_to_insert.RectToInsert.{RectToInsert
 use Rattle.bin_section.specs.Section.{zeroSection}
 use Rattle.try_place.specs.declared.packed_location.PackedLocation.{PackedLocation}
 use Rattle.try_place.specs.Try.{placedOf, fitOf, onPlaced}
-use Rattle.try_place.specs.Appended.{appendedOf}
+use Rattle.packing_rules.specs.Appended.{appendedOf}
 use Rattle.try_place.proofs.Trying.{fit-wider, fit-taller, fit-deeper, fit-placed}
-use Rattle.placing.specs.Rules.{One, nowhere, placed, placeFrom, placeOne, stops, whole, afterOne, placeAll, placeGroup}
-use Rattle.rectangle_pack.specs.Promises.{Fits}
+use Rattle.packing_rules.specs.Rules.{One, nowhere, placed, placeFrom, placeOne, stops, whole, afterOne, placeAll, placeGroup}
+use Rattle.packing_rules.specs.Promises.{Fits}
 
 -- ---- one section
 

@@ -1,0 +1,1 @@
+// The rules of packing and the theorems about them. This crate has no code.
