@@ -1,31 +1,38 @@
 -- A rectangle and its words in the lent table.
 use Prim.Native.Nat.{ℕ, _+_, _*_, _/_, _≤_, _<_}
-use mathlib.Core.List.{List}
+use mathlib.Core.List.{List, [], _∷_}
 use lib.ListN.{length, getD}
 use Rattle.bin_section.specs.Sides.{sides, Small}
 use Rattle.grouped_rects_to_place.specs.declared.rect_to_place.RectToPlace.{RectToPlace}
 
--- "Rectangle record, 5 words: id, group (0 for none), width, height, depth": the rectangle that stands at an index of the table
+-- "Rectangle record, 5 words: id, group (0 for none), width, height, depth"
+abbrev pub rectWidth : ℕ
+rectWidth = 5
+
+-- the rectangle that stands at an index of the table
 unfoldable pub rectAt : List ℕ → ℕ → RectToPlace
 rectAt w i =
     record {
-      id = getD w (i * 5) 0;
-      group = getD w (i * 5 + 1) 0;
-      whd = sides (getD w (i * 5 + 2) 0) (getD w (i * 5 + 3) 0) (getD w (i * 5 + 4) 0);
+      id = getD w (i * rectWidth) 0;
+      group = getD w (i * rectWidth + 1) 0;
+      whd = sides (getD w (i * rectWidth + 2) 0) (getD w (i * rectWidth + 3) 0) (getD w (i * rectWidth + 4) 0);
     }
+
+abbrev pub rectWords : RectToPlace → List ℕ
+rectWords r = r .id ∷ r .group ∷ r .whd .width ∷ r .whd .height ∷ r .whd .depth ∷ []
 
 -- how many rectangles a table has
 abbrev pub rectCount : List ℕ → ℕ
-rectCount rects = length rects / 5
+rectCount rects = length rects / rectWidth
 
 -- ---- What the code may lean on.
 
 -- a record stands at an index of the table; n records stand there
 abbrev pub HasRect : List ℕ → ℕ → Type 0
-HasRect w i = i * 5 + 5 ≤ length w
+HasRect w i = i * rectWidth + rectWidth ≤ length w
 
 abbrev pub HasRects : List ℕ → ℕ → Type 0
-HasRects w n = n * 5 ≤ length w
+HasRects w n = n * rectWidth ≤ length w
 
 -- what checks 1 and 4 leave of a table of n rectangles: "at most 63 in a call", no side above 65,535
 pub record GoodRects (w : List ℕ) (n : ℕ) : Type 0 where
