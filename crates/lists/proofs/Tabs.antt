@@ -1,7 +1,7 @@
 -- Laws of lists by their elements: tabulated, one element out, a part replaced.
 use Prim.Native.Nat.{ℕ, zero, suc, _+_, _*_, _-_, _/_, _%_, _≤_, _<_, zero-le}
 use mathlib.Core.Path.{_≡_, refl, sym, ap, ap₂, _∙_, subst}
-use mathlib.Core.List.{List, [], _∷_, _++_, append-assoc, append-nil}
+use mathlib.Core.List.{List, [], _∷_, _++_, map, append-assoc, append-nil}
 use borrow.Rule.Slice.PartMut.{putMid}
 use native.Mathlib.Nat.{not-suc-le-zero, le-of-suc-le-suc, add-zero}
 use native.Mathlib.Omega.{arith}
@@ -89,10 +89,7 @@ module _ (w : List ℕ) (at : ℕ) (vs : List ℕ) (fits : at + length vs ≤ le
       rw (← e) (getD-append-at (take at w ++ vs) (drop (at + length vs) w) (at + length vs) j 0 head-length
       ∙ getD-drop (at + length vs) w j 0)
 
--- ---- one element out, the later ones moved down one by one: the first k are as they will be, the others as they were
-
-abbrev pub shifted : {A : Type 0} → ℕ → ℕ → List A → List A
-shifted i k ss = take k (removeAt i ss) ++ drop k ss
+-- ---- one element out
 
 module _ {A : Type 0} where
   pub length-removeAt : (i : ℕ) (ss : List A) → i < length ss → suc (length (removeAt i ss)) ≡ length ss
@@ -115,29 +112,10 @@ module _ {A : Type 0} where
   getD-removeAt-after (suc i) zero (x ∷ xs) d h = absurd (not-suc-le-zero h)
   getD-removeAt-after (suc i) (suc j) (x ∷ xs) d h = getD-removeAt-after i j xs d (le-of-suc-le-suc h)
 
-  pub shift-none : (i : ℕ) (ss : List A) → ss ≡ shifted i i ss
-  unfolding removeAt
-  shift-none zero ss = refl
-  shift-none (suc i) [] = refl
-  shift-none (suc i) (x ∷ xs) = ap (λ (r : List A). x ∷ r) (shift-none i xs)
-
-  pub shift-more : (i k : ℕ) (ss : List A) (d : A) → i ≤ k → suc k < length ss → set (shifted i k ss) k (getD (shifted i k ss) (suc k) d) ≡ shifted i (suc k) ss
-  unfolding removeAt
-  shift-more i k [] d h b = absurd (not-suc-le-zero b)
-  shift-more i k (x ∷ []) d h b = absurd (not-suc-le-zero (le-of-suc-le-suc b))
-  shift-more zero zero (x ∷ y ∷ ys) d h b = refl
-  shift-more zero (suc k) (x ∷ y ∷ ys) d h b = ap (λ (r : List A). y ∷ r) (shift-more zero k (y ∷ ys) d zero-le (le-of-suc-le-suc b))
-  shift-more (suc i) zero (x ∷ y ∷ ys) d h b = absurd (not-suc-le-zero h)
-  shift-more (suc i) (suc k) (x ∷ y ∷ ys) d h b = ap (λ (r : List A). x ∷ r) (shift-more i k (y ∷ ys) d (le-of-suc-le-suc h) (le-of-suc-le-suc b))
-
-  pub shift-last : (i k : ℕ) (ss : List A) (z : A) → i ≤ k → k < length ss → set (shifted i k ss) k z ≡ removeAt i (take (suc k) ss) ++ (z ∷ drop (suc k) ss)
-  unfolding removeAt
-  shift-last i k [] z h b = absurd (not-suc-le-zero b)
-  shift-last zero zero (x ∷ xs) z h b = refl
-  shift-last zero (suc k) (x ∷ []) z h b = absurd (not-suc-le-zero (le-of-suc-le-suc b))
-  shift-last zero (suc k) (x ∷ y ∷ ys) z h b = ap (λ (r : List A). y ∷ r) (shift-last zero k (y ∷ ys) z zero-le (le-of-suc-le-suc b))
-  shift-last (suc i) zero (x ∷ xs) z h b = absurd (not-suc-le-zero h)
-  shift-last (suc i) (suc k) (x ∷ xs) z h b = ap (λ (r : List A). x ∷ r) (shift-last i k xs z (le-of-suc-le-suc h) (le-of-suc-le-suc b))
+pub map-set : {A B : Type 0} (f : A → B) (l : List A) (i : ℕ) (y : A) → map f (set l i y) ≡ set (map f l) i (f y)
+map-set f [] i y = refl
+map-set f (x ∷ xs) zero y = refl
+map-set f (x ∷ xs) (suc i) y = ap (λ (r : List _). f x ∷ r) (map-set f xs i y)
 
 -- what the borrow checker leaves of a slice whose middle part was lent and came back as ys
 pub lent : (w ys : List ℕ) (at k : ℕ) → length ys ≡ k → putMid at k w ys ≡ put w at ys

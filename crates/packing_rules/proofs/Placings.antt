@@ -5,6 +5,7 @@ use mathlib.Core.Logic.{_⊎_, inl, inr}
 use mathlib.Core.List.{List, [], _∷_, _++_, append-assoc, append-nil}
 use native.Mathlib.Nat.{eq-or-lt-of-le, le-of-suc-le-suc, lt-suc-self, le-step}
 use native.Mathlib.Omega.{arith}
+use borrow.Author.Tests.{lt-ltb, le-ltb}
 use native.Mathlib.Decide.{decLt}
 use lib.ListN.{length, getD}
 use Rattle.lists.specs.Tab.{removeAt}
@@ -12,9 +13,10 @@ use Rattle.bin_section.specs.declared.section.BinSection.{BinSection}
 use Rattle.bin_section.specs.declared.rect_to_insert.RectToInsert.{RectToInsert}
 use Rattle.bin_section.specs.Section.{zeroSection}
 use Rattle.try_place.specs.declared.packed_location.PackedLocation.{PackedLocation}
-use Rattle.try_place.specs.Try.{placedOf, fitOf, onPlaced}
+use Rattle.replies.specs.Replies.{inOrder}
+use Rattle.try_place.specs.Try.{placedOf, fitChecks, fitOf, onPlaced}
 use Rattle.packing_rules.specs.Appended.{appendedOf}
-use Rattle.try_place.proofs.Trying.{fit-wider, fit-taller, fit-deeper, fit-placed}
+use Rattle.try_place.proofs.Refusing.{fit-placed}
 use Rattle.packing_rules.specs.Rules.{One, nowhere, placed, placeFrom, placeOne, stops, whole, afterOne, placeAll, placeGroup}
 use Rattle.packing_rules.specs.Promises.{Fits}
 
@@ -27,9 +29,11 @@ pub record Refuses (s : BinSection) (r : RectToInsert) : Type 0 where
 
 module _ (s : BinSection) (r : RectToInsert) where
   pub fit-is : Fits s r → fitOf s r ≡ placedOf s r
-  fit-is f = sym (fit-placed s r (f .width-fits) (f .height-fits) (f .depth-fits))
+  unfolding fitChecks
+  fit-is f = fit-placed s r (le-ltb _ _ (f .width-fits), (le-ltb _ _ (f .height-fits), (le-ltb _ _ (f .depth-fits), tt)))
 
   pub fits-or-not : Fits s r ⊎ Refuses s r
+  unfolding fitOf fitChecks inOrder
   fits-or-not =
       by-width (decLt (s .whd .width) (r .whd .width)) (decLt (s .whd .height) (r .whd .height)) (decLt (s .whd .depth) (r .whd .depth))
     where
@@ -38,14 +42,10 @@ module _ (s : BinSection) (r : RectToInsert) where
           → Dec (s .whd .height < r .whd .height)
           → Dec (s .whd .depth < r .whd .depth)
           → Fits s r ⊎ Refuses s r
-      by-width (yes w) h d = inr (record { no-fit = λ f. omega arith; goes-on = λ f e. rw (← fit-wider s r w) })
-      by-width (no w) (yes h) d =
-          let w′ : r .whd .width ≤ s .whd .width = omega arith in
-          inr (record { no-fit = λ f. omega arith; goes-on = λ f e. rw (← fit-taller s r w′ h) })
+      by-width (yes w) h d = inr (record { no-fit = λ f. omega arith; goes-on = λ f e. rw (lt-ltb _ _ w) })
+      by-width (no w) (yes h) d = inr (record { no-fit = λ f. omega arith; goes-on = λ f e. rw (le-ltb (s .whd .width) (r .whd .width) (omega arith), lt-ltb _ _ h) })
       by-width (no w) (no h) (yes d) =
-          let w′ : r .whd .width ≤ s .whd .width = omega arith in
-          let h′ : r .whd .height ≤ s .whd .height = omega arith in
-          inr (record { no-fit = λ f. omega arith; goes-on = λ f e. rw (← fit-deeper s r w′ h′ d) })
+          inr (record { no-fit = λ f. omega arith; goes-on = λ f e. rw (le-ltb (s .whd .width) (r .whd .width) (omega arith), le-ltb (s .whd .height) (r .whd .height) (omega arith), lt-ltb _ _ d) })
       by-width (no w) (no h) (no d) =
           inl (record { width-fits = omega arith; height-fits = omega arith; depth-fits = omega arith })
 

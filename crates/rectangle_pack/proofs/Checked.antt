@@ -22,7 +22,8 @@ use Rattle.target_bin.specs.Checks.{tableChecks}
 use Rattle.target_bin.specs.Store.{partAt}
 use Rattle.replies.proofs.Ladders.{AllPass, passes, row-passes, row-fires, past, no-fault}
 use Rattle.target_bin.proofs.Passing.{Sound, tables-sound}
-use Rattle.grouped_rects_to_place.specs.Rect.{rectAt, GoodRects, rectCount}
+use Rattle.grouped_rects_to_place.specs.Rect.{rectAt, rectWidth, rectCount, GoodRects}
+use Rattle.placement.specs.Placements.{placementWidth}
 use Rattle.grouped_rects_to_place.specs.Checks.{badRect, repeatedId}
 use Rattle.grouped_rects_to_place.proofs.Checking.{good-rects}
 use Rattle.rectangle_pack.specs.Pack.{rectLengthsOk, rectChecks, packChecks}
@@ -32,35 +33,34 @@ use Rattle.rectangle_pack.specs.Leaning.{SmallChambers, Ready, Passed}
 -- ---- 1
 
 module _ (rects p : List ℕ) where
-  pub rect-odd : (length rects % 5 ≡ 0 → ⊥) → false ≡ rectLengthsOk rects p
+  pub rect-odd : (length rects % rectWidth ≡ 0 → ⊥) → false ≡ rectLengthsOk rects p
   unfolding rectLengthsOk
   rect-odd n = sym (and-no-first _ _ (ne-eqb _ _ n))
 
   pub rect-many : 63 < rectCount rects → false ≡ rectLengthsOk rects p
   unfolding rectLengthsOk
   rect-many h =
-      sym (and-no-second (eqb (length rects % 5) 0) (leb (rectCount rects) 63 && eqb (length p) (rectCount rects * 5)) (and-no-first _ _ (lt-leb _ _ h)))
+      sym (and-no-second (eqb (length rects % rectWidth) 0) (leb (rectCount rects) 63 && eqb (length p) (rectCount rects * placementWidth)) (and-no-first _ _ (lt-leb _ _ h)))
 
-  pub rect-places : length rects % 5 ≡ 0 → rectCount rects ≤ 63 → eqb (length p) (rectCount rects * 5) ≡ rectLengthsOk rects p
+  pub rect-places : length rects % rectWidth ≡ 0 → rectCount rects ≤ 63 → eqb (length p) (rectCount rects * placementWidth) ≡ rectLengthsOk rects p
   unfolding rectLengthsOk
   rect-places z h = sym (rw (eq-eqb _ _ z, le-leb _ _ h))
 
   pub record RectLengths : Type 0 where
     pub few : rectCount rects ≤ 63
-    pub long : length rects ≡ rectCount rects * 5
-    pub places : length p ≡ length rects
+    pub long : length rects ≡ rectCount rects * rectWidth
+    pub places : length p ≡ rectCount rects * placementWidth
 
   pub rect-lengths : rectLengthsOk rects p ≡ true → RectLengths
   unfolding rectLengthsOk
   rect-lengths t =
-      let a = eqb (length rects % 5) 0 in
+      let a = eqb (length rects % rectWidth) 0 in
       let b = leb (rectCount rects) 63 in
-      let d = eqb (length p) (rectCount rects * 5) in
+      let d = eqb (length p) (rectCount rects * placementWidth) in
       let r = and-second a (b && d) t in
-      let x : length rects % 5 ≡ 0 = eqb-true _ _ (and-first a (b && d) t) in
+      let x : length rects % rectWidth ≡ 0 = eqb-true _ _ (and-first a (b && d) t) in
       let y : rectCount rects ≤ 63 = leb-true _ _ (and-first b d r) in
-      let z : length p ≡ rectCount rects * 5 = eqb-true _ _ (and-second b d r) in
-      record { few = y; long = omega arith; places = omega arith }
+      record { few = y; long = omega arith; places = eqb-true _ _ (and-second b d r) }
 
 -- ---- all of them
 

@@ -18,7 +18,8 @@ use Rattle.target_bin.specs.Checks.{Shaped}
 use Rattle.target_bin.specs.Store.{partAt, freeOf}
 use Rattle.grouped_rects_to_place.specs.declared.rect_to_place.RectToPlace.{RectToPlace}
 use Rattle.replies.specs.declared.reply.Reply.{Reply}
-use Rattle.grouped_rects_to_place.specs.Rect.{rectAt, GoodRects, rectCount}
+use Rattle.grouped_rects_to_place.specs.Rect.{rectAt, rectWidth, rectCount, GoodRects}
+use Rattle.placement.specs.Placements.{placementWidth}
 use Rattle.packing_rules.specs.Packing.{State, state, rectsAt, trialIn, isWhole, firstWhole, changed, Ended, packGroups}
 use Rattle.packing_rules.specs.Order.{trialOrder}
 use Rattle.grouped_rects_to_place.specs.Groups.{groupsOf}
@@ -47,7 +48,7 @@ pub record Enough (count m : ℕ) (w : List ℕ) : Type 0 where
 -- the first m entries of group are indices of the table
 pub record GroupOf (rects : List ℕ) (m : ℕ) (group : List ℕ) : Type 0 where
   pub room : m ≤ length group
-  pub listed : (k : ℕ) → k < m → getD group k 0 * 5 + 5 ≤ length rects
+  pub listed : (k : ℕ) → k < m → getD group k 0 < rectCount rects
 
 -- a group that goes in whole stands in the chamber and has its placements
 pub record Committed (r : ℕ → RectToPlace) (group : List ℕ) (id count n : ℕ) (w w′ p p′ : List ℕ) : Type 0 where
@@ -135,8 +136,8 @@ pub record Passed (c st rects p : List ℕ) : Type 0 where
   pub ready : Ready c st (rectCount rects)
   pub small : SmallChambers c
   pub rects-good : GoodRects rects (rectCount rects)
-  pub rects-long : length rects ≡ rectCount rects * 5
-  pub places-long : length p ≡ length rects
+  pub rects-long : length rects ≡ rectCount rects * rectWidth
+  pub places-long : length p ≡ rectCount rects * placementWidth
 
 -- the groups of n rectangles are packed from the state that the tables hold
 pub record GroupsPacked (r : ℕ → RectToPlace) (n : ℕ) (answer : Reply) (c st p c′ st′ p′ : List ℕ) : Type 0 where

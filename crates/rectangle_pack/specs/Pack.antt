@@ -12,7 +12,8 @@ use Rattle.target_bin.specs.declared.chamber.TargetBin.{TargetBin}
 use Rattle.target_bin.specs.Chambers.{bin, chamberAt, chamberCount, tableOf}
 use Rattle.target_bin.specs.Store.{storeOf}
 use Rattle.target_bin.specs.Checks.{tableChecks}
-use Rattle.grouped_rects_to_place.specs.Rect.{rectAt, rectCount}
+use Rattle.grouped_rects_to_place.specs.Rect.{rectAt, rectCount, rectWidth}
+use Rattle.placement.specs.Placements.{placementWidth}
 use Rattle.grouped_rects_to_place.specs.Checks.{badRect, repeatedId}
 use Rattle.packing_rules.specs.Packing.{Ended, packing, noRoom}
 use Rattle.rectangle_pack.specs.Records.{placementsOf}
@@ -20,7 +21,7 @@ use Rattle.rectangle_pack.specs.Records.{placementsOf}
 -- 1: "Rectangle record, 5 words", "At most 63 in a call", and the placement table is "5 words a rectangle"
 unfoldable pub rectLengthsOk : List ℕ → List ℕ → Bool
 rectLengthsOk rects placements =
-    eqb (length rects % 5) 0 && (leb (rectCount rects) 63 && eqb (length placements) (rectCount rects * 5))
+    eqb (length rects % rectWidth) 0 && (leb (rectCount rects) 63 && eqb (length placements) (rectCount rects * placementWidth))
 
 -- "Pack: 1 to 7." The seventh is the packing itself. Check 1 has two halves, the rectangles' tables and the chambers'.
 unfoldable pub rectChecks : List ℕ → List ℕ → List (Check Reply)

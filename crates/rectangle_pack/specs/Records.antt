@@ -1,13 +1,15 @@
--- "Placement record, 5 words, at the rectangle's index: 1 if placed else 0, chamber id, x, y, z. An unplaced record is five zeros."
+-- The placement table that a pack leaves.
+use mathlib.Core.List.{List, map}
 use Prim.Native.Nat.{ℕ}
-use mathlib.Core.List.{List, [], _∷_}
-use Rattle.sections.specs.Sections.{joined}
+use Rattle.placement.specs.declared.Placement.{Placement}
+use Rattle.placement.specs.Placements.{placement, noPlacement, placementTable}
 use Rattle.packing_rules.specs.Seats.{Seat, unplaced, seat}
 
-abbrev pub seatWords : Seat → List ℕ
-seatWords unplaced = 0 ∷ 0 ∷ 0 ∷ 0 ∷ 0 ∷ []
-seatWords (seat id l) = 1 ∷ id ∷ l .x ∷ l .y ∷ l .z ∷ []
+-- "1 if placed else 0, chamber id, x, y, z. An unplaced record is five zeros."
+abbrev pub placementOf : Seat → Placement
+placementOf unplaced = noPlacement
+placementOf (seat id l) = placement 1 id (l .x) (l .y) (l .z)
 
 -- the table written
 abbrev pub placementsOf : List Seat → List ℕ
-placementsOf = joined seatWords
+placementsOf seats = placementTable (map placementOf seats)

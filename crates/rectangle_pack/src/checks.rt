@@ -7,12 +7,12 @@ ghost use Rattle.replies.specs.Replies.{reply, inOrder};
 ghost use Rattle.target_bin.specs.Chambers.{chamberCount};
 ghost use Rattle.target_bin.specs.Checks.{Counted};
 ghost use Rattle.rectangle_pack.specs.Pack.{rectLengthsOk, rectChecks, packChecks};
-ghost use Rattle.grouped_rects_to_place.specs.Rect.{rectCount};
+ghost use Rattle.grouped_rects_to_place.specs.Rect.{rectWidth, rectCount};
 ghost use Rattle.packing_rules.specs.Packing.{noRoom};
-use crate::placements;
 use grouped_rects_to_place::RectToPlace;
 use grouped_rects_to_place::first_bad_rect;
 use grouped_rects_to_place::first_repeated;
+use placement::Placement;
 use replies::Reply;
 use target_bin::TargetBin;
 use target_bin::check_tables;
@@ -28,7 +28,7 @@ fn rect_lengths_ok(rects: &[u32], placements: &[u32]) -> bool
     if RectToPlace::MOST < n {
         return false;
     }
-    placements.len() == n * placements::WORDS
+    placements.len() == n * Placement::WORDS
 }
 
 // Check 6: the first chamber with too little room, or their number where none has.
@@ -50,23 +50,23 @@ fn first_without_room(chambers: &[u32], n: usize) -> usize
 
 // Checks 4, 5 and 6 in their order: reply 0 where none fires.
 fn check_rects(chambers: &[u32], rects: &[u32]) -> Reply
-    requires { ⌜ Counted (now chambers) × (chamberCount (now chambers) ≤ 16) × (length (now rects) ≡ rectCount (now rects) * 5) × (rectCount (now rects) ≤ 63) ⌝ }
+    requires { ⌜ Counted (now chambers) × (chamberCount (now chambers) ≤ 16) × (length (now rects) ≡ rectCount (now rects) * rectWidth) × (rectCount (now rects) ≤ 63) ⌝ }
     ensures { λ r. ⌜ r ≡ inOrder (rectChecks (now (chambers .entry)) (now (rects .entry))) (λ a. a) (reply 0 0) ⌝ }
 {
     let n = rects.len() / RectToPlace::WORDS;
     let bad = first_bad_rect(rects, n);
     if bad < n {
-        return Reply::new(4, bad as u32);
+        return Reply::new(Reply::BAD_RECTANGLE, bad as u32);
     }
     let repeated = first_repeated(rects, n);
     if repeated < n {
-        return Reply::new(5, repeated as u32);
+        return Reply::new(Reply::SAME_ID, repeated as u32);
     }
     let full = first_without_room(chambers, n);
     if full < chambers.len() / TargetBin::WORDS {
-        return Reply::new(6, full as u32);
+        return Reply::new(Reply::NO_ROOM, full as u32);
     }
-    Reply::new(0, 0)
+    Reply::new(Reply::DONE, 0)
 }
 
 // All of them: reply 0 where none fires.
@@ -74,7 +74,7 @@ pub fn check_pack(chambers: &[u32], store: &[u32], rects: &[u32], placements: &[
     ensures { λ r. ⌜ r ≡ inOrder (packChecks (now (chambers .entry)) (now (store .entry)) (now (rects .entry)) (now (placements .entry))) (λ a. a) (reply 0 0) ⌝ }
 {
     if !rect_lengths_ok(rects, placements) {
-        return Reply::new(1, 0);
+        return Reply::new(Reply::BAD_LENGTH, 0);
     }
     let tables = check_tables(chambers, store);
     if tables.number != 0 {

@@ -4,7 +4,8 @@ ghost use Prim.Native.Nat.{_≤_, _<_};
 ghost use lib.ListN.{length, take};
 ghost use Rattle.target_bin.specs.Chambers.{chamberCount};
 ghost use Rattle.target_bin.specs.Store.{freeOf};
-ghost use Rattle.grouped_rects_to_place.specs.Rect.{rectAt};
+ghost use Rattle.grouped_rects_to_place.specs.Rect.{rectAt, rectCount};
+ghost use Rattle.placement.specs.Placements.{HasPlacements};
 ghost use Rattle.packing_rules.specs.Packing.{trialIn, isWhole, firstWhole};
 ghost use Rattle.rectangle_pack.specs.Leaning.{GroupOf, Indices, Ready, Served, Grouped};
 use crate::trial::commit;
@@ -67,7 +68,7 @@ fn serve(
     m: usize,
     placements: &mut [u32],
 )
-    requires { ⌜ Ready (now chambers) (now store) m × (k < chamberCount (now chambers)) × GroupOf (now rects) m (now group) × (length (now placements) ≡ length (now rects)) ⌝ }
+    requires { ⌜ Ready (now chambers) (now store) m × (k < chamberCount (now chambers)) × GroupOf (now rects) m (now group) × HasPlacements (now placements) (rectCount (now rects)) ⌝ }
     ensures { λ _. ⌜ Served (rectAt (now (rects .entry))) (take m (now (group .entry))) k (now (chambers .entry)) (now (store .entry)) (now (placements .entry)) (now (chambers .exit)) (now (store .exit)) (now (placements .exit)) ⌝ }
 {
     let bin = TargetBin::read(chambers, k);
@@ -98,7 +99,7 @@ pub fn pack_group(
     placements: &mut [u32],
     copy: &mut [u32],
 ) -> bool
-    requires { ⌜ Ready (now chambers) (now store) m × Indices (chamberCount (now chambers)) n (now order) × GroupOf (now rects) m (now group) × (length (now placements) ≡ length (now rects)) × (length (now copy) ≡ 768) ⌝ }
+    requires { ⌜ Ready (now chambers) (now store) m × Indices (chamberCount (now chambers)) n (now order) × GroupOf (now rects) m (now group) × HasPlacements (now placements) (rectCount (now rects)) × (length (now copy) ≡ 768) ⌝ }
     ensures { λ b. ⌜ Grouped (take n (now (order .entry))) (rectAt (now (rects .entry))) (take m (now (group .entry))) b (now (chambers .entry)) (now (store .entry)) (now (placements .entry)) (now (chambers .exit)) (now (store .exit)) (now (placements .exit)) ⌝ }
 {
     let t = first_fitting(chambers, store, order, n, rects, group, m, copy);

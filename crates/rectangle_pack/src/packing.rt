@@ -6,7 +6,8 @@ ghost use Rattle.sections.specs.Changes.{Cleared};
 ghost use Rattle.target_bin.specs.Chambers.{chamberAt, chamberCount};
 ghost use Rattle.target_bin.specs.Checks.{Shaped};
 ghost use Rattle.target_bin.specs.Lending.{InChamber};
-ghost use Rattle.grouped_rects_to_place.specs.Rect.{rectAt, HasRects, GoodRects};
+ghost use Rattle.grouped_rects_to_place.specs.Rect.{rectAt, rectCount, HasRects, GoodRects};
+ghost use Rattle.placement.specs.Placements.{HasPlacements};
 ghost use Rattle.grouped_rects_to_place.specs.Groups.{members, groupOrder, Listed};
 ghost use Rattle.packing_rules.specs.Order.{trialOrder};
 ghost use Rattle.rectangle_pack.specs.Pack.{packOutcome, written, packOf};
@@ -59,7 +60,7 @@ fn pack_next(
     group: &mut [usize],
     copy: &mut [u32],
 ) -> bool
-    requires { ⌜ Ready (now chambers) (now store) (length (members n (rectAt (now rects)) lead)) × (lead < n) × HasRects (now rects) n × (length (now placements) ≡ length (now rects)) × Indices (chamberCount (now chambers)) bins (now order) × (n ≤ length (now group)) × (length (now copy) ≡ 768) ⌝ }
+    requires { ⌜ Ready (now chambers) (now store) (length (members n (rectAt (now rects)) lead)) × (lead < n) × HasRects (now rects) n × HasPlacements (now placements) (rectCount (now rects)) × Indices (chamberCount (now chambers)) bins (now order) × (n ≤ length (now group)) × (length (now copy) ≡ 768) ⌝ }
     ensures { λ b. ⌜ Grouped (take bins (now (order .entry))) (rectAt (now (rects .entry))) (members n (rectAt (now (rects .entry))) lead) b (now (chambers .entry)) (now (store .entry)) (now (placements .entry)) (now (chambers .exit)) (now (store .exit)) (now (placements .exit)) ⌝ }
 {
     let m = members_of(rects, n, lead, group);
@@ -90,7 +91,7 @@ fn pack_groups(
     group: &mut [usize],
     copy: &mut [u32],
 ) -> Reply
-    requires { ⌜ Ready (now chambers) (now store) n × Clean (now chambers) (now store) × GoodRects (now rects) n × (length (now placements) ≡ length (now rects)) × Listed (chamberCount (now chambers)) (trialOrder (now chambers)) (now order) bins × Listed n (groupOrder n (rectAt (now rects))) (now leads) groups × (bins ≤ length (now order)) × (groups ≤ length (now leads)) × (n ≤ length (now group)) × (length (now copy) ≡ 768) ⌝ }
+    requires { ⌜ Ready (now chambers) (now store) n × Clean (now chambers) (now store) × GoodRects (now rects) n × HasPlacements (now placements) (rectCount (now rects)) × Listed (chamberCount (now chambers)) (trialOrder (now chambers)) (now order) bins × Listed n (groupOrder n (rectAt (now rects))) (now leads) groups × (bins ≤ length (now order)) × (groups ≤ length (now leads)) × (n ≤ length (now group)) × (length (now copy) ≡ 768) ⌝ }
     ensures { λ r. ⌜ GroupsPacked (rectAt (now (rects .entry))) n r (now (chambers .entry)) (now (store .entry)) (now (placements .entry)) (now (chambers .exit)) (now (store .exit)) (now (placements .exit)) ⌝ }
 {
     let mut g = 0;
@@ -108,11 +109,11 @@ fn pack_groups(
             group,
             copy,
         ) {
-            return Reply::new(7, lead as u32);
+            return Reply::new(Reply::NOT_ENOUGH_BIN_SPACE, lead as u32);
         }
         g += 1;
     }
-    Reply::new(0, 0)
+    Reply::new(Reply::DONE, 0)
 }
 
 // The packing itself. Its arrays are made once a call.

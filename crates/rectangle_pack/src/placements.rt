@@ -1,37 +1,34 @@
-// The placement table.
+// The placement table of a pack.
 ghost use mathlib.Core.Path.{_≡_};
-ghost use Prim.Native.Nat.{_+_, _*_, _≤_};
+ghost use Prim.Native.Nat.{_*_};
 ghost use lib.ListN.{length, replicate};
 ghost use Rattle.lists.specs.Tab.{put};
-ghost use Rattle.rectangle_pack.specs.Records.{seatWords, placementsOf};
+ghost use Rattle.placement.specs.Placements.{HasPlacement, placementWidth, placementWords};
 ghost use Rattle.packing_rules.specs.Seats.{seat};
+ghost use Rattle.rectangle_pack.specs.Records.{placementOf};
+use placement::Placement;
 use try_place::PackedLocation;
-
-// The words of a placement record, and what its first word says of a placed rectangle.
-pub const WORDS: usize = 5;
-
-const PLACED: u32 = 1;
+use words::fill;
 
 // Writes the record of the rectangle at index i.
 pub fn write_placement(placements: &mut [u32], i: usize, id: u32, location: PackedLocation)
-    requires { ⌜ i * 5 + 5 ≤ length (now placements) ⌝ }
-    ensures { λ _. ⌜ now (placements .exit) ≡ put (now (placements .entry)) (i * 5) (seatWords (seat id location)) ⌝ }
+    requires { ⌜ HasPlacement (now placements) i ⌝ }
+    ensures { λ _. ⌜ now (placements .exit) ≡ put (now (placements .entry)) (i * placementWidth) (placementWords (placementOf (seat id location))) ⌝ }
 {
-    let at = i * WORDS;
-    placements[at] = PLACED;
-    placements[at + 1] = id;
-    placements[at + 2] = location.x;
-    placements[at + 3] = location.y;
-    placements[at + 4] = location.z;
+    let record = Placement {
+        placed: Placement::PLACED,
+        chamber: id,
+        x: location.x,
+        y: location.y,
+        z: location.z,
+    };
+    record.write(placements, i);
 }
 
 // "An unplaced record is five zeros."
 pub fn clear_placements(placements: &mut [u32])
     ensures { λ _. ⌜ now (placements .exit) ≡ replicate (length (now (placements .entry))) 0 ⌝ }
 {
-    let mut i = 0;
-    while i < placements.len() {
-        placements[i] = 0;
-        i += 1;
-    }
+    let n = placements.len();
+    fill(placements, 0, n, 0);
 }

@@ -5,7 +5,8 @@ ghost use lib.ListN.{length, take};
 ghost use Rattle.sections.specs.Sections.{sections};
 ghost use Rattle.placing.specs.Place.{PlacedIn};
 ghost use Rattle.packing_rules.specs.Rules.{placeGroup};
-ghost use Rattle.grouped_rects_to_place.specs.Rect.{rectAt};
+ghost use Rattle.grouped_rects_to_place.specs.Rect.{HasRect, rectAt, rectCount};
+ghost use Rattle.placement.specs.Placements.{HasPlacements};
 ghost use Rattle.packing_rules.specs.Packing.{rectsAt, isWhole};
 ghost use Rattle.rectangle_pack.specs.Leaning.{GroupOf, Enough, Committed, rectIn};
 use crate::placements::write_placement;
@@ -15,6 +16,7 @@ use grouped_rects_to_place::RectToPlace;
 use placing::Placed;
 use placing::Spot;
 use placing::place_rect;
+use words::put_words;
 
 // Copies the counted sections of a chamber, and no more.
 pub fn copy_sections(part: &[u32], count: usize, copy: &mut [u32])
@@ -22,16 +24,12 @@ pub fn copy_sections(part: &[u32], count: usize, copy: &mut [u32])
     ensures { λ _. ⌜ sections (now (copy .exit)) count ≡ sections (now (part .entry)) count ⌝ }
 {
     let end = count * BinSection::WORDS;
-    let mut i = 0;
-    while i < end {
-        copy[i] = part[i];
-        i += 1;
-    }
+    put_words(copy, 0, &part[0..end]);
 }
 
 // The rectangle at an index of the table, placed.
 fn place_next(words: &mut [u32], count: usize, rects: &[u32], i: usize) -> Placed
-    requires { ⌜ Enough count 1 (now words) × (i * 5 + 5 ≤ length (now rects)) ⌝ }
+    requires { ⌜ Enough count 1 (now words) × HasRect (now rects) i ⌝ }
     ensures { λ p. ⌜ PlacedIn count (rectIn (now (rects .entry)) i) p (now (words .entry)) (now (words .exit)) ⌝ }
 {
     let rect = RectToPlace::read(rects, i);
@@ -68,7 +66,7 @@ pub fn commit(
     placements: &mut [u32],
     id: u32,
 ) -> usize
-    requires { ⌜ Enough count m (now part) × GroupOf (now rects) m (now group) × (length (now placements) ≡ length (now rects)) ⌝ }
+    requires { ⌜ Enough count m (now part) × GroupOf (now rects) m (now group) × HasPlacements (now placements) (rectCount (now rects)) ⌝ }
     ensures { λ n. ⌜ Committed (rectAt (now (rects .entry))) (take m (now (group .entry))) id count n (now (part .entry)) (now (part .exit)) (now (placements .entry)) (now (placements .exit)) ⌝ }
 {
     let mut left = count;

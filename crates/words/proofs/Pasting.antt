@@ -1,10 +1,10 @@
 -- A part of a table that a loop writes word by word: what is written so far, and the rest as it was.
 use Prim.Native.Nat.{ℕ, _+_, _≤_, _<_}
 use mathlib.Core.Path.{_≡_, refl, sym, ap, _∙_}
-use mathlib.Core.List.{List}
+use mathlib.Core.List.{List, append-nil}
 use native.Mathlib.Numerals.{add-one}
 use native.Mathlib.Omega.{arith}
-use lib.ListN.{length, take, drop, getD, set, replicate, length-replicate, getD-replicate, length-take, length-drop}
+use lib.ListN.{length, take, drop, getD, set, replicate, length-replicate, getD-replicate, length-take, length-drop, drop-of-length-le}
 use lib.Seq.{paste, paste-zero, paste-suc, length-paste, drop-paste, take-length, getD-take, getD-drop}
 use Rattle.lists.specs.Tab.{put}
 use Rattle.words.specs.Words.{movedDown}
@@ -48,6 +48,13 @@ module _ (l : List ℕ) (at n value : ℕ) where
 
   pub filled-all : (i : ℕ) (w : List ℕ) → Pasted l at (replicate n value) i w → n ≤ i → w ≡ put l at (replicate n value)
   filled-all i w p h = pasted-all l at (replicate n value) i w p (omega (arith, length-replicate n value))
+
+-- a whole table filled
+pub filled-whole : (l w : List ℕ) (value : ℕ) → w ≡ put l 0 (replicate (length l) value) → w ≡ replicate (length l) value
+unfolding put
+filled-whole l w value e =
+    let n : length l ≤ 0 + length (replicate (length l) value) = omega (arith, length-replicate (length l) value) in
+    e ∙ rw (drop-of-length-le l n) (append-nil (replicate (length l) value))
 
 -- ---- words moved down
 

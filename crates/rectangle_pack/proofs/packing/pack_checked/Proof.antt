@@ -7,7 +7,7 @@ pack-groups-requires : it.Tie.Need-pack-groups-requires
 pack-groups-requires c κs = let g = c .before .before .before .before .before .before .before .before .before in let o = g .before .before .before .before in let p = o .before .before .before .before .before in let t = p .before .before .before .before in let s = t .before .before .before .before .before .before .before in (tidied-ready _ _ _ _ (s .pre .ready) (t .clear-tails .ensures), t .clear-tails .ensures .clean, s .pre .rects-good, search needs, o .sort-chambers .ensures, g .sort-groups .ensures, omega (arith, o .sort-chambers .ensures .few, s .pre .ready .shaped .few), omega (arith, g .sort-groups .ensures .few, s .pre .rects-good .few), omega (arith, s .pre .rects-good .few), search needs)
 
 returns : it.Tie.Need-returns
-returns c = let q = c .before .before .before .before .before .before .before .before in let g = q .before .before .before .before .before .before .before .before .before .before in let o = g .before .before .before .before in let p = o .before .before .before .before .before in let t = p .before .before .before .before in let s = t .before .before .before .before .before .before .before in packing-done _ _ _ (now (s .args .placements)) _ _ _ _ _ _ (s .pre .places-long ∙ s .pre .rects-long) (t .clear-tails .ensures) (p .clear-placements .ensures) (q .pack-groups .ensures)
+returns c = let q = c .before .before .before .before .before .before .before .before in let g = q .before .before .before .before .before .before .before .before .before .before in let o = g .before .before .before .before in let p = o .before .before .before .before .before in let t = p .before .before .before .before in let s = t .before .before .before .before .before .before .before in packing-done _ _ _ (now (s .args .placements)) _ _ _ _ _ _ (s .pre .places-long) (t .clear-tails .ensures) (p .clear-placements .ensures) (q .pack-groups .ensures)
 
 pub pack-checked-spec : {M : Type 1} → it.Statement.statement M
 pack-checked-spec =

@@ -1,20 +1,14 @@
-use Rattle.lists.proofs.Kit.{needs, _*_, _-_, arith}
-use Rattle.rectangle_pack.proofs.Tables.{Copied, copied-none, copied-more, copied-sections}
+use Rattle.lists.proofs.Kit.{_*_, _-_, now, arith, needs}
+use Rattle.rectangle_pack.proofs.Tables.{copied-sections}
 use Rattle.rectangle_pack.proofs.trial.copy_sections as it
 
-abbrev Inv-loop : it.Tie.InvT-loop
-Inv-loop part count copy₀ end i₀ copy i = Copied part copy₀ (count * 6) i copy
-
-abbrev μ-loop : it.Tie.MeasureT-loop
-μ-loop part count copy₀ end i₀ copy i = count * 6 - i
-
-loop-again : it.Tie.Need-loop-again Inv-loop μ-loop
-loop-again c = let l = c .before .before in copied-more _ _ _ _ _ (l .loop .inv) (c .before .loop-test .taken) (l .before .pre .0) (l .before .pre .1)
+returns : it.Tie.Need-returns
+returns c =
+    let s = c .before .before .before .before .before .before .before in
+    copied-sections (now (s .args .part)) (now (s .args .copy)) _ (s .args .count) (s .args .count * 6 - 0) (s .pre .0) (c .before .before .put-words .ensures) (omega arith)
 
 pub copy-sections-spec : {M : Type 1} → it.Statement.statement M
 copy-sections-spec =
     it.Tie.close
-    (it.Tie.spec Inv-loop μ-loop (λ c. search needs) (λ c. copied-none _ _ _) (λ c. search needs) (λ c. search needs)
-    (λ c. search needs) (λ c. search needs) (λ c. search needs) (λ c. search needs) loop-again
-    (λ c. c .before .loop .inv .long)
-    (λ c. copied-sections _ _ _ _ _ (c .before .loop .inv) (c .loop-test .left) (c .before .before .pre .0)))
+    (it.Tie.spec (λ c. search needs) (λ c. search needs) (λ c. search needs) (λ c. search needs) (λ c κs. search needs)
+    (λ c. search needs) returns)
