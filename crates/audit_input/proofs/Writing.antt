@@ -13,8 +13,7 @@ use Rattle.replies.specs.declared.reply.Reply.{Reply}
 use Rattle.text.specs.Ascii.{ascii}
 use Rattle.text.specs.Decimal.{item}
 use Rattle.text.specs.Written.{Written}
-use Rattle.audit_input.specs.Input.{inputReply}
-use Rattle.audit_input.specs.Line.{nameOf, indexOf, lineFor, lineOf, Wrote}
+use Rattle.audit_input.specs.Line.{inputReply, nameOf, indexOf, lineFor, lineOf, Wrote}
 
 -- every other number
 pub name-bad : (n : ℕ) → ¬ (n ≡ 0) → ¬ (n ≡ 16) → ¬ (n ≡ 17) → ¬ (n ≡ 18) → nameOf 1 ≡ nameOf n

@@ -6,9 +6,16 @@ use mathlib.Core.Bool.{_||_, cond}
 use lib.Dec.{eqb}
 use lib.ListN.{length, take, drop}
 use Rattle.replies.specs.declared.reply.Reply.{Reply}
+use Rattle.replies.specs.Replies.{reply}
+use Rattle.audit.specs.Audit.{auditReply}
+use Rattle.box_input.specs.Input.{inputChamber, inputPlaced, inputFree, isInput}
 use Rattle.text.specs.Ascii.{ascii}
 use Rattle.text.specs.Decimal.{item}
-use Rattle.audit_input.specs.Input.{inputReply}
+
+-- what the audit answers to the chamber and the boxes. What is no input is answered as a table's wrong length is, and so would the audit
+-- itself answer more than 1,024 boxes (`too-many` of the proofs).
+unfoldable pub inputReply : List ℕ → Reply
+inputReply b = cond (isInput b) (auditReply (inputChamber b) (inputPlaced b) (inputFree b)) (reply 1 0)
 
 -- by reply number
 unfoldable pub nameOf : ℕ → List ℕ

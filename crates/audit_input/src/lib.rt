@@ -1,29 +1,15 @@
-// The audit program's work, on bytes: an input read and audited, and its line written.
+// The audit program's work, on bytes: an input audited, and its line written.
 ghost use Rattle.audit_input.specs.Line.{lineOf, Wrote};
 
-mod input;
 mod line;
+mod reply;
 
-use input::reply_of;
 use line::write_line;
+use reply::reply_of;
 
-// The lengths of an input and of its line.
 pub struct AuditInput {}
 
 impl AuditInput {
-    pub const VERSION: u8 = 1;
-
-    // The length word and the version byte.
-    pub const BEFORE_HEAD: usize = 5;
-
-    // The same and five words.
-    pub const HEAD: usize = 25;
-
-    pub const BOX: usize = 24;
-
-    // An input of 1,024 boxes.
-    pub const MOST: usize = 24601;
-
     // A line is at most 19 bytes long: the longest name, a space, ten digits, a newline.
     pub const LINE: usize = 19;
 }

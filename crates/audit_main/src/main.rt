@@ -1,9 +1,10 @@
 // The audit program: reads one input from standard input, and writes its line to standard output.
 use audit_input::AuditInput;
 use audit_input::audit_line;
+use box_input::BoxInput;
 
 // One byte past the longest valid input: what is longer still gets the same line (`cut-line` of the library's proofs).
-const MOST_READ: usize = AuditInput::MOST + 1;
+const MOST_READ: usize = BoxInput::MOST + 1;
 
 fn main() {
     let mut bytes = [0u8; MOST_READ];

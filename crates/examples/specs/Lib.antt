@@ -1,2 +1,4 @@
+pub mod Shown
 pub mod Job
+pub mod Rows
 pub mod Table

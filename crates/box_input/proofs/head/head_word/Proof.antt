@@ -1,6 +1,6 @@
 use Rattle.lists.proofs.Kit.{now, needs}
-use Rattle.audit_input.proofs.Reading.{head-read}
-use Rattle.audit_input.proofs.input.head_word as it
+use Rattle.box_input.proofs.Reading.{head-read}
+use Rattle.box_input.proofs.head.head_word as it
 
 pub head-word-spec : {M : Type 1} → it.Statement.statement M
 head-word-spec =

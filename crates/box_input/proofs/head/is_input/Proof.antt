@@ -1,7 +1,7 @@
 use Rattle.lists.proofs.Kit.{sym, needs}
-use Rattle.audit_input.specs.Input.{isInput}
-use Rattle.audit_input.proofs.Reading.{short-none}
-use Rattle.audit_input.proofs.input.is_input as it
+use Rattle.box_input.specs.Input.{isInput}
+use Rattle.box_input.proofs.Reading.{short-none}
+use Rattle.box_input.proofs.head.is_input as it
 
 pub is-input-spec : {M : Type 1} → it.Statement.statement M
 is-input-spec =

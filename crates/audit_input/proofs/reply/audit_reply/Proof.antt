@@ -1,6 +1,6 @@
 use Rattle.lists.proofs.Kit.{_∙_, needs}
 use Rattle.audit.proofs.Replying.{answer-of}
-use Rattle.audit_input.proofs.input.audit_reply as it
+use Rattle.audit_input.proofs.reply.audit_reply as it
 
 pub audit-reply-spec : {M : Type 1} → it.Statement.statement M
 audit-reply-spec =
