@@ -32,7 +32,7 @@ pub extern "C" fn cafunderi_try(section: &[u32], rectangle: &[u32], placed: &mut
     ensures { λ r. ⌜ tryOutcome r (now (placed .exit)) ≡ tryFace (now (section .entry)) (now (rectangle .entry)) (now (placed .entry)) ⌝ }
 {
     if !lengths_ok(section, rectangle, placed) {
-        return Reply::new(1, 0);
+        return Reply::new(Reply::BAD_LENGTH, 0);
     }
     try_words(section, rectangle, placed)
 }
@@ -60,7 +60,7 @@ pub extern "C" fn cafunderi_return(
     ensures { λ r. ⌜ outcome r (now (chambers .exit)) (now (store .exit)) ≡ returnFace (now (chambers .entry)) (now (store .entry)) id (now (section .entry)) ⌝ }
 {
     if section.len() != BinSection::WORDS {
-        return Reply::new(1, 0);
+        return Reply::new(Reply::BAD_LENGTH, 0);
     }
     return_section(chambers, store, id, BinSection::read(section, 0))
 }
@@ -71,7 +71,7 @@ pub extern "C" fn cafunderi_audit<'a>(sides: &[u32], placed: &'a [u32], free: &'
     ensures { λ r. ⌜ r ≡ auditFace (now (sides .entry)) (now (placed .entry)) (now (free .entry)) ⌝ }
 {
     if sides.len() != WidthHeightDepth::WORDS {
-        return Reply::new(1, 0);
+        return Reply::new(Reply::BAD_LENGTH, 0);
     }
     let mut number = 0;
     let mut detail = 0;

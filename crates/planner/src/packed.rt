@@ -19,7 +19,7 @@ fn pack_fresh(
     ensures { λ r. ⌜ packOutcome r (now (chambers .exit)) (now (store .exit)) (now (placements .exit)) ≡ packFresh (now (chambers .entry)) (now (store .entry)) (now (coils .entry)) (now (placements .entry)) ⌝ }
 {
     let answer = fresh(chambers, store);
-    if answer.number != 0 {
+    if answer.number != Reply::DONE {
         return answer;
     }
     pack(chambers, store, coils, placements)

@@ -77,7 +77,7 @@ pub fn check_pack(chambers: &[u32], store: &[u32], rects: &[u32], placements: &[
         return Reply::new(Reply::BAD_LENGTH, 0);
     }
     let tables = check_tables(chambers, store);
-    if tables.number != 0 {
+    if tables.number != Reply::DONE {
         return tables;
     }
     check_rects(chambers, rects)

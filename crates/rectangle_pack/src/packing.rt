@@ -156,7 +156,7 @@ pub fn pack(chambers: &mut [u32], store: &mut [u32], rects: &[u32], placements: 
     ensures { λ r. ⌜ packOutcome r (now (chambers .exit)) (now (store .exit)) (now (placements .exit)) ≡ packOf (now (chambers .entry)) (now (store .entry)) (now (rects .entry)) (now (placements .entry)) ⌝ }
 {
     let checked = check_pack(chambers, store, rects, placements);
-    if checked.number != 0 {
+    if checked.number != Reply::DONE {
         return checked;
     }
     pack_checked(chambers, store, rects, placements)

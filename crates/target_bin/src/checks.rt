@@ -116,18 +116,18 @@ pub fn check_tables(chambers: &[u32], store: &[u32]) -> Reply
     ensures { λ r. ⌜ r ≡ inOrder (tableChecks (now (chambers .entry)) (now (store .entry))) (λ a. a) (reply 0 0) ⌝ }
 {
     if !lengths_ok(chambers, store) {
-        return Reply::new(1, 0);
+        return Reply::new(Reply::BAD_LENGTH, 0);
     }
     let n = chambers.len() / TargetBin::WORDS;
     let bad_chamber = first_bad_chamber(chambers);
     if bad_chamber < n {
-        return Reply::new(2, bad_chamber as u32);
+        return Reply::new(Reply::BAD_CHAMBER, bad_chamber as u32);
     }
     let bad_section = first_bad_section(chambers, store);
     if bad_section < n {
-        return Reply::new(3, bad_section as u32);
+        return Reply::new(Reply::BAD_SECTION, bad_section as u32);
     }
-    Reply::new(0, 0)
+    Reply::new(Reply::DONE, 0)
 }
 
 // The chamber that has the id, or their number where none has it.

@@ -22,14 +22,14 @@ pub fn fresh(chambers: &mut [u32], store: &mut [u32]) -> Reply
     ensures { λ r. ⌜ outcome r (now (chambers .exit)) (now (store .exit)) ≡ freshOf (now (chambers .entry)) (now (store .entry)) ⌝ }
 {
     if !lengths_ok(chambers, store) {
-        return Reply::new(1, 0);
+        return Reply::new(Reply::BAD_LENGTH, 0);
     }
     let bad = first_bad_shape(chambers);
     if bad < chambers.len() / TargetBin::WORDS {
-        return Reply::new(2, bad as u32);
+        return Reply::new(Reply::BAD_CHAMBER, bad as u32);
     }
     freshen_all(chambers, store);
-    Reply::new(0, 0)
+    Reply::new(Reply::DONE, 0)
 }
 
 fn freshen_all(chambers: &mut [u32], store: &mut [u32])

@@ -20,16 +20,16 @@ pub fn push_available_bin_section(part: &mut [u32], bin: TargetBin, section: Bin
     ensures { λ _. ⌜ now (part .exit) ≡ inOrder (pushChecks bin (now (part .entry)) section) (λ _. now (part .entry)) (put (now (part .entry)) (bin .count * 6) (wordsOf section)) ⌝ }
 {
     if !inside(section, bin.whd) {
-        return Reply::new(9, 0);
+        return Reply::new(Reply::NOT_CONTAINED, 0);
     }
     let count = bin.count as usize;
     let shared = first_sharing(part, count, section);
     if shared < count {
-        return Reply::new(10, shared as u32);
+        return Reply::new(Reply::OVERLAPS, shared as u32);
     }
     if bin.count == TargetBin::SECTIONS {
-        return Reply::new(11, 0);
+        return Reply::new(Reply::FULL, 0);
     }
     append_section(part, count, section);
-    Reply::new(0, bin.count)
+    Reply::new(Reply::DONE, bin.count)
 }

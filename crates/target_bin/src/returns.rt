@@ -21,7 +21,7 @@ pub fn return_section(
     ensures { λ r. ⌜ outcome r (now (chambers .exit)) (now (store .exit)) ≡ returnOf (now (chambers .entry)) (now (store .entry)) id section ⌝ }
 {
     let tables = check_tables(chambers, store);
-    if tables.number != 0 {
+    if tables.number != Reply::DONE {
         return tables;
     }
     return_to(chambers, store, id, section)
@@ -34,13 +34,13 @@ fn return_to(chambers: &mut [u32], store: &mut [u32], id: u32, section: BinSecti
 {
     let k = find_chamber(chambers, id);
     if chambers.len() / TargetBin::WORDS <= k {
-        return Reply::new(8, 0);
+        return Reply::new(Reply::NO_CHAMBER, 0);
     }
     let bin = TargetBin::read(chambers, k);
     let start = k * TargetBin::STORE;
     let end = start + TargetBin::STORE;
     let answer = push_available_bin_section(&mut store[start..end], bin, section);
-    if answer.number != 0 {
+    if answer.number != Reply::DONE {
         return answer;
     }
     TargetBin::write_count(chambers, k, bin.count + 1);
