@@ -19,6 +19,7 @@ use Rattle.bin_section.specs.Overlap.{spansMeet, overlapsOf}
 use Rattle.replies.specs.Replies.{reply, inOrder}
 use Rattle.bin_section.specs.Inside.{spanInside, insideOf}
 use Rattle.sections.specs.Sections.{sections, joined, allWords}
+use Rattle.sections.specs.Inside.{sharesEarlier}
 use Rattle.target_bin.specs.Chambers.{chamberAt, chamberOf, chambersOf}
 use Rattle.target_bin.specs.Checks.{lengthsOk, idOk, shapeOk, chamberOk, badSections}
 use Rattle.target_bin.specs.Store.{partAt, freeAt, freeOf, partOf, storeOf}
@@ -169,6 +170,6 @@ unfolding lowest anyBelow picked sumTo tab removeAt put
     rectAt badRect repeatedId sameGroup leadOf isLead share groupVolume keyWith comesBefore earlier groupOrder groupsOf
     placeFrom placeOne placeAll placeGroup order.goesBefore order.tried order.trialOrder seated
     rectsAt trialIn firstWhole changed packGroups rectLengthsOk noRoom rectChecks packChecks start packing binsWith written packOf
-    volumes auditing.boxesOf auditing.auditBoxes auditing.lengthsOk auditing.sharesEarlier auditing.auditReply auditing.shownOf auditing.auditOf
+    volumes auditing.auditBoxes auditing.lengthsOk sharesEarlier auditing.auditReply auditing.shownOf auditing.auditOf
     audited coils packed table answered tried tryOf fitOf spanOk sideOk sixSplits chosen ranksOf bestOf bestFrom laterOf betterOf appendedOf larger keptOne kept insertBy insertAll
 examples-hold = refl

@@ -1,3 +1,5 @@
 pub mod Chunks
 pub mod Reading
 pub mod Moves
+pub mod Nearing
+pub mod Searching
