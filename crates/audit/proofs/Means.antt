@@ -21,7 +21,8 @@ use Rattle.bin_section.specs.Inside.{outside}
 use Rattle.bin_section.proofs.Bounding.{not-outside→inside, inside→not-outside, outside→not-inside, not-inside→outside}
 use Rattle.cells.specs.Whole.{boxAt, AllInside, Apart, Whole, volumes}
 use Rattle.cells.proofs.Counting.{volumes-fit, sum→whole, less→gap, whole-filled, whole-no-gap}
-use Rattle.audit.specs.Audit.{auditBoxes, lengthsOk, sharesEarlier, auditReply, shownOf, auditOf}
+use Rattle.sections.specs.Inside.{sharesEarlier}
+use Rattle.audit.specs.Audit.{auditBoxes, lengthsOk, auditReply, shownOf, auditOf}
 use Rattle.audit.specs.Meaning.{Given, FirstOutside, FirstShared, CellInNoBox, AuditMeans}
 use Rattle.audit.proofs.Tests.{none-inside, inside-none, not-shares→apart, apart→not-shares, shares→some, some→shares}
 use Rattle.audit.proofs.TwoLists.{words-box}

@@ -17,7 +17,8 @@ use Rattle.bin_section.specs.Sides.{volumeOf, sidesOk}
 use Rattle.replies.specs.Replies.{reply, inOrder}
 use Rattle.bin_section.specs.Inside.{outside}
 use Rattle.cells.specs.Whole.{boxAt, volumes}
-use Rattle.audit.specs.Audit.{auditBoxes, lengthsOk, sharesEarlier, auditReply, shownOf, Audited, audited, auditOf}
+use Rattle.sections.specs.Inside.{sharesEarlier}
+use Rattle.audit.specs.Audit.{auditBoxes, lengthsOk, auditReply, shownOf, Audited, audited, auditOf}
 use Rattle.audit.proofs.TwoLists.{boxes-length}
 
 -- what lengths that pass check 1 have

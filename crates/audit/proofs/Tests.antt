@@ -17,7 +17,7 @@ use Rattle.bin_section.proofs.Sharing.{overlaps→shares, shares→overlaps}
 use Rattle.bin_section.specs.Inside.{outside}
 use Rattle.bin_section.proofs.Bounding.{not-outside→inside, inside→not-outside}
 use Rattle.cells.specs.Whole.{boxAt, AllInside}
-use Rattle.audit.specs.Audit.{sharesEarlier}
+use Rattle.sections.specs.Inside.{sharesEarlier}
 
 -- ---- check 2
 

@@ -1,59 +1,57 @@
--- Laws of the boxes of two lists: which box stands at an index, and where its words lie.
+-- Laws of the boxes of two lists: which box stands at an index, where its words lie, and searches and sums list by list.
 use Prim.Native.Nat.{ℕ, _+_, _*_, _-_, _/_, _%_, _≤_, _<_}
 use mathlib.Core.Path.{_≡_, refl, sym, ap, ap₂, _∙_, subst}
 use mathlib.Core.List.{List, _++_}
-use mathlib.Core.Bool.{Bool, true, false, _||_}
-use native.Mathlib.Nat.{add-zero}
+use mathlib.Core.Bool.{Bool, true, _||_}
 use native.Mathlib.Decide.{decLt}
 use native.Mathlib.Omega.{arith}
+use borrow.Author.Tests.{lt-ltb, le-ltb}
+use lib.Dec.{ltb}
 use lib.ListN.{length, getD, take, drop, length-append, List·getD-append, length-drop}
 use lib.Seq.{getD-append-add, take-append-le, drop-append-le, drop-append-add}
 use Rattle.lists.specs.Lowest.{lowest, anyBelow}
-use Rattle.lists.specs.Tab.{tab}
-use Rattle.lists.proofs.Lowests.{None, lowest-here, lowest-end, any-same, any-parts}
-use Rattle.lists.proofs.Tabs.{length-tab, getD-tab, middle}
+use Rattle.lists.proofs.Lowests.{lowest-first, lowest-second, any-same, any-parts, any-lowest}
+use Rattle.bin_section.specs.declared.width_height_depth.WidthHeightDepth.{WidthHeightDepth}
 use Rattle.bin_section.specs.declared.section.BinSection.{BinSection}
+use Rattle.bin_section.specs.Sides.{Small}
 use Rattle.bin_section.specs.Section.{sectionAt, zeroSection, wordsOf}
 use Rattle.bin_section.specs.Overlap.{overlapsOf}
-use Rattle.cells.specs.Whole.{boxAt}
-use Rattle.audit.specs.Audit.{boxesOf, auditBoxes, sharesEarlier}
+use Rattle.cells.specs.Whole.{boxAt, Inside, AllInside, volumes}
+use Rattle.sections.specs.Sections.{sections}
+use Rattle.sections.specs.Inside.{sharesAt, sharesEarlier, AllSmall}
+use Rattle.sections.proofs.Reading.{length-sections, getD-sections, words-of-section}
+use Rattle.sections.proofs.Searching.{volumes-append}
+use Rattle.audit.specs.Audit.{boxesOf, auditBoxes}
 
 -- how many words a part from n to n + 6 has
 pub six : (n : ℕ) → n + 6 - n ≡ 6
 six n = omega arith
 
--- the words of a box of one list
-box-words : (words : List ℕ) (i : ℕ) → i < length words / 6 → take 6 (drop (i * 6) words) ≡ wordsOf (sectionAt words i)
-unfolding sectionAt tab
-box-words words i h = middle 6 (i * 6) words (omega arith) ∙ simp add-zero
+-- a box that lies inside a chamber with small sides has small sides
+inside-small : (whd : WidthHeightDepth) (b c : BinSection) → c ≡ b → Inside whd b → Small whd → Small (c .whd)
+inside-small whd b c e p s = rw e (record { width-small = omega arith; height-small = omega arith; depth-small = omega arith })
 
 module _ (placed free : List ℕ) where
-  pub boxes-length : length (auditBoxes placed free) ≡ length placed / 6 + length free / 6
-  unfolding auditBoxes boxesOf
-  boxes-length = simp (length-append, length-tab)
+  abbrev boxes : List BinSection
+  boxes = auditBoxes placed free
 
-  placed-length : length (boxesOf placed) ≡ length placed / 6
-  unfolding boxesOf
-  placed-length = length-tab _ _
+  pub boxes-length : length boxes ≡ length placed / 6 + length free / 6
+  unfolding auditBoxes
+  boxes-length = simp (length-append, length-sections)
 
-  pub box-placed : (i : ℕ) → i < length placed / 6 → boxAt (auditBoxes placed free) i ≡ sectionAt placed i
-  unfolding auditBoxes boxesOf
+  pub box-placed : (i : ℕ) → i < length placed / 6 → boxAt boxes i ≡ sectionAt placed i
+  unfolding auditBoxes
   box-placed i h =
-      List·getD-append (boxesOf placed) (boxesOf free) zeroSection i (omega (arith, placed-length))
-      ∙ getD-tab (length placed / 6) (sectionAt placed) i zeroSection h
+      List·getD-append (boxesOf placed) (boxesOf free) zeroSection i (omega (arith, length-sections placed (length placed / 6)))
+      ∙ getD-sections placed (length placed / 6) i zeroSection h
 
   -- counted from the end of the placed list
-  pub box-free-at : (i : ℕ) → i < length free / 6 → boxAt (auditBoxes placed free) (length placed / 6 + i) ≡ sectionAt free i
-  unfolding auditBoxes boxesOf
-  box-free-at i h =
-      subst (λ (n : ℕ). getD (boxesOf placed ++ boxesOf free) (n + i) zeroSection ≡ getD (boxesOf free) i zeroSection) placed-length
-      (getD-append-add (boxesOf placed) (boxesOf free) i zeroSection)
-      ∙ getD-tab (length free / 6) (sectionAt free) i zeroSection h
-
-  pub box-free : (i first : ℕ) → first ≡ length placed / 6 → first ≤ i → i < length placed / 6 + length free / 6 → sectionAt free (i - first) ≡ boxAt (auditBoxes placed free) i
-  box-free i first f l h =
-      let e : length placed / 6 + (i - first) ≡ i = omega arith in
-      subst (λ (n : ℕ). sectionAt free (i - first) ≡ boxAt (auditBoxes placed free) n) e (sym (box-free-at (i - first) (omega arith)))
+  pub box-free : (k : ℕ) → k < length free / 6 → boxAt boxes (length placed / 6 + k) ≡ sectionAt free k
+  unfolding auditBoxes
+  box-free k h =
+      subst (λ (n : ℕ). getD (boxesOf placed ++ boxesOf free) (n + k) zeroSection ≡ getD (boxesOf free) k zeroSection)
+      (length-sections placed (length placed / 6)) (getD-append-add (boxesOf placed) (boxesOf free) k zeroSection)
+      ∙ getD-sections free (length free / 6) k zeroSection h
 
   -- ---- the six words of a box
 
@@ -69,49 +67,88 @@ module _ (placed free : List ℕ) where
       (ap (λ (l : List ℕ). take 6 l) (sym (drop-append-add placed free ((i - first) * 6))))
 
   -- they are the words of the box at the index
-  pub words-box : (i : ℕ) → length placed % 6 ≡ 0 → i < length placed / 6 + length free / 6 → take 6 (drop (i * 6) (placed ++ free)) ≡ wordsOf (boxAt (auditBoxes placed free) i)
+  pub words-box : (i : ℕ) → length placed % 6 ≡ 0 → i < length placed / 6 + length free / 6 → take 6 (drop (i * 6) (placed ++ free)) ≡ wordsOf (boxAt boxes i)
   words-box i whole h = go (decLt i (length placed / 6))
     where
-      go : Dec (i < length placed / 6) → take 6 (drop (i * 6) (placed ++ free)) ≡ wordsOf (boxAt (auditBoxes placed free) i)
-      go (yes l) = sym (words-placed i l) ∙ box-words placed i l ∙ ap wordsOf (sym (box-placed i l))
+      go : Dec (i < length placed / 6) → take 6 (drop (i * 6) (placed ++ free)) ≡ wordsOf (boxAt boxes i)
+      go (yes l) = sym (words-placed i l) ∙ sym (words-of-section placed i (omega arith)) ∙ ap wordsOf (sym (box-placed i l))
       go (no l) =
-          let k : length placed / 6 ≤ i = omega arith in
-          sym (words-free i (length placed / 6) whole refl k)
-          ∙ box-words free (i - length placed / 6) (omega arith)
-          ∙ ap wordsOf (box-free i (length placed / 6) refl k h)
+          let k = i - length placed / 6 in
+          let e : length placed / 6 + k ≡ i = omega arith in
+          sym (words-free i (length placed / 6) whole refl (omega arith))
+          ∙ sym (words-of-section free k (omega arith))
+          ∙ ap wordsOf (sym (box-free k (omega arith)) ∙ ap (λ (n : ℕ). boxAt boxes n) e)
 
-  -- ---- a loop through the boxes of both lists, n of them, that asks a test of each
+  -- ---- a search through both lists; `first` is how many boxes the placed one has
 
-  pub found : (n i : ℕ) (test : ℕ → Bool) → n ≡ length placed / 6 + length free / 6 → None i test → i < n → test i ≡ true → i ≡ lowest (length (auditBoxes placed free)) test
-  found n i test e none h y = sym (lowest-here (length (auditBoxes placed free)) i test none (omega (arith, boxes-length)) y)
+  module _ (first : ℕ) (counted : first ≡ length placed / 6) where
+    all-boxes : length boxes ≡ first + length free / 6
+    all-boxes = omega (arith, boxes-length)
 
-  pub found-none : (n i : ℕ) (test : ℕ → Bool) → n ≡ length placed / 6 + length free / 6 → None i test → n ≤ i → n ≡ lowest (length (auditBoxes placed free)) test
-  found-none n i test e none h =
-      e ∙ sym boxes-length ∙ sym (lowest-end (length (auditBoxes placed free)) i test none (omega (arith, boxes-length)))
+    box-second : (k : ℕ) → k < length free / 6 → sectionAt free k ≡ boxAt boxes (first + k)
+    box-second k h = sym (box-free k h) ∙ ap (λ (n : ℕ). boxAt boxes (n + k)) (sym counted)
 
-  -- ---- whether an earlier box shares a cell, list by list
+    -- by a test of one box
+    module _ (test : BinSection → Bool) (r : ℕ) (found : r ≡ lowest first (λ i. test (sectionAt placed i))) where
+      pub tested-placed : r < first → r ≡ lowest (length boxes) (λ i. test (boxAt boxes i))
+      tested-placed =
+          lowest-first first (length free / 6) (length boxes) all-boxes (λ i. test (sectionAt placed i)) (λ k. test (sectionAt free k)) (λ i. test (boxAt boxes i))
+          (λ i l. ap test (sym (box-placed i (omega arith)))) (λ k l. ap test (box-second k l)) r found
 
-  module _ (j : ℕ) (b : BinSection) (at : b ≡ boxAt (auditBoxes placed free) j) where
-    pub shares-placed : j ≤ length placed / 6 → anyBelow j (λ i. overlapsOf (sectionAt placed i) b) ≡ sharesEarlier (auditBoxes placed free) j
+      pub tested-free : first ≤ r → (n s : ℕ) → n ≡ length free / 6 → s ≡ lowest n (λ k. test (sectionAt free k)) → first + s ≡ lowest (length boxes) (λ i. test (boxAt boxes i))
+      tested-free h n s e =
+          lowest-second first n (length boxes) (omega (arith, boxes-length)) (λ i. test (sectionAt placed i)) (λ k. test (sectionAt free k)) (λ i. test (boxAt boxes i))
+          (λ i l. ap test (sym (box-placed i (omega arith)))) (λ k l. ap test (box-second k (omega arith))) r found h s
+
+    -- for a box that shares a cell with an earlier one
+    same-earlier : (i : ℕ) → i < first → sharesEarlier (sections placed first) i ≡ sharesEarlier boxes i
     unfolding sharesEarlier
-    shares-placed h = any-same j _ _ (λ i l. ap₂ overlapsOf (sym (box-placed i (omega arith))) at)
+    same-earlier i h =
+        any-same i _ _
+        (λ k l. ap₂ overlapsOf (getD-sections placed first k zeroSection (omega arith) ∙ sym (box-placed k (omega arith)))
+        (getD-sections placed first i zeroSection h ∙ sym (box-placed i (omega arith))))
 
-    module _ (first : ℕ) (f : first ≡ length placed / 6) (l : first ≤ j) (h : j < length placed / 6 + length free / 6) where
-      shares-parts :
-          sharesEarlier (auditBoxes placed free) j
-          ≡ (anyBelow first (λ i. overlapsOf (sectionAt placed i) b) || anyBelow (j - first) (λ i. overlapsOf (sectionAt free i) b))
+    module _ (r : ℕ) (found : r ≡ lowest first (sharesEarlier (sections placed first))) where
+      pub shared-placed : r < first → r ≡ lowest (length boxes) (sharesEarlier boxes)
+      shared-placed =
+          lowest-first first (length free / 6) (length boxes) all-boxes (sharesEarlier (sections placed first)) (λ k. sharesEarlier boxes (first + k)) (sharesEarlier boxes)
+          same-earlier (λ k l. refl) r found
+
+      pub shared-free : first ≤ r → (s : ℕ) → s ≡ lowest (length free / 6) (λ k. sharesEarlier boxes (length placed / 6 + k)) → first + s ≡ lowest (length boxes) (sharesEarlier boxes)
+      shared-free =
+          lowest-second first (length free / 6) (length boxes) all-boxes (sharesEarlier (sections placed first)) (λ k. sharesEarlier boxes (length placed / 6 + k)) (sharesEarlier boxes)
+          same-earlier (λ k l. ap (λ (n : ℕ). sharesEarlier boxes (n + k)) (sym counted)) r found
+
+    -- whether the free box at k does: the search among the placed ones comes to r, that among the earlier free ones to s
+    module _ (k : ℕ) (below : k < length free / 6) (b : BinSection) (read : b ≡ sectionAt free k) (r : ℕ) (found : r ≡ lowest first (sharesAt b placed)) where
+      two-parts : sharesEarlier boxes (length placed / 6 + k) ≡ (ltb r first || anyBelow k (sharesAt b free))
       unfolding sharesEarlier
-      shares-parts =
-          let test : ℕ → Bool = λ i. overlapsOf (boxAt (auditBoxes placed free) i) (boxAt (auditBoxes placed free) j) in
-          let e : first + (j - first) ≡ j = omega arith in
-          subst (λ (n : ℕ). anyBelow n test ≡ (anyBelow first test || anyBelow (j - first) (λ i. test (first + i)))) e (any-parts first (j - first) test)
-          ∙ ap₂ _||_ (any-same first _ _ (λ i k. ap₂ overlapsOf (box-placed i (omega arith)) (sym at)))
-          (any-same (j - first) _ _ (λ i k. ap₂ overlapsOf (ap (λ (n : ℕ). boxAt (auditBoxes placed free) (n + i)) f ∙ box-free-at i (omega arith)) (sym at)))
+      two-parts =
+          let at : boxAt boxes (length placed / 6 + k) ≡ b = box-free k below ∙ sym read in
+          any-parts (length placed / 6) k (λ i. overlapsOf (boxAt boxes i) (boxAt boxes (length placed / 6 + k)))
+          ∙ ap₂ _||_
+          (any-same (length placed / 6) _ (sharesAt b placed) (λ i l. ap₂ overlapsOf (box-placed i l) at)
+          ∙ ap (λ (n : ℕ). anyBelow n (sharesAt b placed)) (sym counted)
+          ∙ any-lowest first (sharesAt b placed) ∙ ap (λ (m : ℕ). ltb m first) (sym found))
+          (any-same k _ (sharesAt b free) (λ i l. ap₂ overlapsOf (box-free i (omega arith)) at))
 
-      pub shares-first : anyBelow first (λ i. overlapsOf (sectionAt placed i) b) ≡ true → true ≡ sharesEarlier (auditBoxes placed free) j
-      shares-first y = sym (shares-parts ∙ rw y refl)
+      pub shares-placed : r < first → true ≡ sharesEarlier boxes (length placed / 6 + k)
+      shares-placed h = sym (two-parts ∙ rw (lt-ltb r first h) refl)
 
-      pub shares-free :
-          anyBelow first (λ i. overlapsOf (sectionAt placed i) b) ≡ false
-          → anyBelow (j - first) (λ i. overlapsOf (sectionAt free i) b) ≡ sharesEarlier (auditBoxes placed free) j
-      shares-free y = sym (shares-parts ∙ rw y refl)
+      pub shares-free : first ≤ r → (s : ℕ) → s ≡ lowest k (sharesAt b free) → ltb s k ≡ sharesEarlier boxes (length placed / 6 + k)
+      shares-free h s e = sym (two-parts ∙ rw (le-ltb r first h, any-lowest k (sharesAt b free), e) refl)
+
+  -- ---- the volumes of boxes that lie inside
+
+  module _ (whd : WidthHeightDepth) (small : Small whd) (inside : AllInside whd boxes) where
+    pub small-placed : (n : ℕ) → n ≡ length placed / 6 → AllSmall n placed
+    small-placed n e =
+        record { at = λ i h. inside-small whd (boxAt boxes i) (sectionAt placed i) (sym (box-placed i (omega arith))) (inside .at i (omega (arith, boxes-length))) small }
+
+    pub small-free : (n : ℕ) → n ≡ length free / 6 → AllSmall n free
+    small-free n e =
+        record { at = λ k h. inside-small whd (boxAt boxes (length placed / 6 + k)) (sectionAt free k) (sym (box-free k (omega arith))) (inside .at (length placed / 6 + k) (omega (arith, boxes-length))) small }
+
+  pub volumes-both : (m n s t : ℕ) → m ≡ length placed / 6 → s ≡ volumes (sections placed m) → n ≡ length free / 6 → t ≡ volumes (sections free n) → s + t ≡ volumes boxes
+  unfolding auditBoxes
+  volumes-both m n s t em es en et = rw (es, et, em, en) (sym (volumes-append (boxesOf placed) (boxesOf free)))

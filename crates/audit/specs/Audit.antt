@@ -4,21 +4,19 @@ use mathlib.Core.List.{List, [], _∷_, _++_}
 use mathlib.Core.Bool.{Bool, not, _&&_, _||_, cond}
 use lib.Dec.{eqb, leb}
 use lib.ListN.{length, take, drop}
-use Rattle.lists.specs.Lowest.{anyBelow}
-use Rattle.lists.specs.Tab.{tab}
 use Rattle.bin_section.specs.declared.width_height_depth.WidthHeightDepth.{WidthHeightDepth}
 use Rattle.bin_section.specs.declared.section.BinSection.{BinSection}
 use Rattle.replies.specs.declared.reply.Reply.{Reply}
 use Rattle.bin_section.specs.Sides.{volumeOf, sidesOk}
-use Rattle.bin_section.specs.Section.{sectionAt}
-use Rattle.bin_section.specs.Overlap.{overlapsOf}
 use Rattle.bin_section.specs.Inside.{outside}
 use Rattle.replies.specs.Replies.{reply, Check, once, each, inOrder}
 use Rattle.cells.specs.Whole.{boxAt, volumes}
+use Rattle.sections.specs.Sections.{sections}
+use Rattle.sections.specs.Inside.{sharesEarlier}
 
 -- "6 words each": the boxes of a list of words
-unfoldable pub boxesOf : List ℕ → List BinSection
-boxesOf words = tab (length words / 6) (sectionAt words)
+abbrev pub boxesOf : List ℕ → List BinSection
+boxesOf words = sections words (length words / 6)
 
 -- "box indices count the placed list, then the free list"
 unfoldable pub auditBoxes : List ℕ → List ℕ → List BinSection
@@ -27,10 +25,6 @@ auditBoxes placed free = boxesOf placed ++ boxesOf free
 -- "at most 1,024 boxes together, 6 words each", of the lengths of the two lists
 unfoldable pub lengthsOk : ℕ → ℕ → Bool
 lengthsOk placed free = eqb (placed % 6) 0 && (eqb (free % 6) 0 && leb (placed / 6 + free / 6) 1024)
-
--- "a box shares a cell with an earlier one"
-unfoldable pub sharesEarlier : List BinSection → ℕ → Bool
-sharesEarlier boxes j = anyBelow j (λ i. overlapsOf (boxAt boxes i) (boxAt boxes j))
 
 -- "Audit: 1, 2 (sides of its one chamber), 16, 17, 18". Where neither 16 nor 17 is given, a cell is in no box exactly when
 -- the volumes do not sum to the chamber's: `Meaning` says what each reply means in cells.

@@ -1,4 +1,4 @@
-// What the replies 16, 17 and 18 test of the boxes.
+// What the replies 16, 17 and 18 test of the boxes: indices run through the placed list, then the free list.
 ghost use mathlib.Core.Path.{_≡_};
 ghost use Prim.Native.Nat.{_+_, _/_, _≤_, _<_};
 ghost use lib.Dec.{eqb};
@@ -7,57 +7,70 @@ ghost use Rattle.lists.specs.Lowest.{lowest};
 ghost use Rattle.bin_section.specs.Sides.{volumeOf, Small};
 ghost use Rattle.bin_section.specs.Inside.{outside};
 ghost use Rattle.cells.specs.Whole.{boxAt, AllInside, volumes};
-ghost use Rattle.audit.specs.Audit.{auditBoxes, sharesEarlier};
-use crate::boxes::box_at;
-use crate::boxes::boxes_in;
-use crate::near::shares_with;
+ghost use Rattle.sections.specs.Inside.{sharesEarlier};
+ghost use Rattle.audit.specs.Audit.{auditBoxes};
+use bin_section::BinSection;
 use bin_section::WidthHeightDepth;
-use bin_section::inside;
+use sections::first_sharing;
+use sections::sum_of_volumes;
+
+// How many boxes a list of six words each has.
+pub fn boxes_in(words: &[u32]) -> usize
+    ensures { λ r. ⌜ r ≡ length (now (words .entry)) / 6 ⌝ }
+{
+    words.len() / BinSection::WORDS
+}
 
 // The lowest box that has a zero side or reaches past the chamber; the number of boxes where none does.
 pub fn first_outside(whd: WidthHeightDepth, placed: &[u32], free: &[u32]) -> usize
     ensures { λ r. ⌜ r ≡ lowest (length (auditBoxes (now (placed .entry)) (now (free .entry)))) (λ i. outside whd (boxAt (auditBoxes (now (placed .entry)) (now (free .entry))) i)) ⌝ }
 {
-    let n = boxes_in(placed) + boxes_in(free);
-    let mut i = 0;
-    while i < n {
-        if !inside(box_at(placed, free, i), whd) {
-            return i;
-        }
-        i += 1;
+    let first = boxes_in(placed);
+    let out = sections::first_outside(placed, first, whd);
+    if out < first {
+        return out;
     }
-    n
+    first + sections::first_outside(free, boxes_in(free), whd)
 }
 
-// Whether box j shares a cell with an earlier one: box j is read once, the earlier ones list by list.
-fn shares_earlier(placed: &[u32], free: &[u32], j: usize) -> bool
-    requires { ⌜ j < length (now placed) / 6 + length (now free) / 6 ⌝ }
-    ensures { λ r. ⌜ r ≡ sharesEarlier (auditBoxes (now (placed .entry)) (now (free .entry))) j ⌝ }
+// Whether free box k shares a cell with a placed one or an earlier free one.
+fn free_shares(placed: &[u32], free: &[u32], k: usize) -> bool
+    requires { ⌜ k < length (now free) / 6 ⌝ }
+    ensures { λ r. ⌜ r ≡ sharesEarlier (auditBoxes (now (placed .entry)) (now (free .entry))) (length (now (placed .entry)) / 6 + k) ⌝ }
 {
-    let b = box_at(placed, free, j);
     let first = boxes_in(placed);
-    if j <= first {
-        return shares_with(placed, j, b);
-    }
-    if shares_with(placed, first, b) {
+    let section = BinSection::read(free, k);
+    if first_sharing(placed, first, section) < first {
         return true;
     }
-    shares_with(free, j - first, b)
+    first_sharing(free, k, section) < k
+}
+
+// The lowest such free box; their number where none does.
+fn first_free_shared(placed: &[u32], free: &[u32]) -> usize
+    ensures { λ r. ⌜ r ≡ lowest (length (now (free .entry)) / 6) (λ k. sharesEarlier (auditBoxes (now (placed .entry)) (now (free .entry))) (length (now (placed .entry)) / 6 + k)) ⌝ }
+{
+    let n = boxes_in(free);
+    let mut k = 0;
+    while k < n {
+        if free_shares(placed, free, k) {
+            return k;
+        }
+        k += 1;
+    }
+    n
 }
 
 // The lowest box that shares a cell with an earlier one; the number of boxes where none does.
 pub fn first_shared(placed: &[u32], free: &[u32]) -> usize
     ensures { λ r. ⌜ r ≡ lowest (length (auditBoxes (now (placed .entry)) (now (free .entry)))) (sharesEarlier (auditBoxes (now (placed .entry)) (now (free .entry)))) ⌝ }
 {
-    let n = boxes_in(placed) + boxes_in(free);
-    let mut j = 0;
-    while j < n {
-        if shares_earlier(placed, free, j) {
-            return j;
-        }
-        j += 1;
+    let first = boxes_in(placed);
+    let shared = sections::first_shared(placed, first);
+    if shared < first {
+        return shared;
     }
-    n
+    first + first_free_shared(placed, free)
 }
 
 // Whether the volumes of boxes that lie inside sum to the chamber's. The sum of 1,024 of them fits 64 bits.
@@ -65,12 +78,7 @@ pub fn fills(whd: WidthHeightDepth, placed: &[u32], free: &[u32]) -> bool
     requires { ⌜ Small whd × (length (now placed) / 6 + length (now free) / 6 ≤ 1024) × AllInside whd (auditBoxes (now placed) (now free)) ⌝ }
     ensures { λ r. ⌜ r ≡ eqb (volumes (auditBoxes (now (placed .entry)) (now (free .entry)))) (volumeOf whd) ⌝ }
 {
-    let n = boxes_in(placed) + boxes_in(free);
-    let mut sum = 0;
-    let mut i = 0;
-    while i < n {
-        sum += box_at(placed, free, i).whd.volume();
-        i += 1;
-    }
-    sum == whd.volume()
+    let of_placed = sum_of_volumes(placed, boxes_in(placed));
+    let of_free = sum_of_volumes(free, boxes_in(free));
+    of_placed + of_free == whd.volume()
 }

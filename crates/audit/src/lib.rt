@@ -8,13 +8,11 @@ ghost use Rattle.replies.specs.Replies.{reply};
 ghost use Rattle.audit.specs.Audit.{lengthsOk, auditReply, audited, auditOf};
 ghost use Rattle.audit.specs.Place.{LiesAt, ShownAt};
 
-mod boxes;
 mod checks;
-mod near;
 
 use bin_section::BinSection;
 use bin_section::WidthHeightDepth;
-use boxes::boxes_in;
+use checks::boxes_in;
 use checks::fills;
 use checks::first_outside;
 use checks::first_shared;

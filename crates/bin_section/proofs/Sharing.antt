@@ -2,9 +2,9 @@
 use Prim.Native.Nat.{ℕ, _+_, _≤_, _<_, min, max}
 use mathlib.Core.Path.{_≡_, refl, sym, ap, ap₂, _∙_}
 use mathlib.Core.Logic.{_↔_}
-use mathlib.Core.Bool.{Bool, true, false, _&&_}
+use mathlib.Core.Bool.{Bool, true, false, not, _&&_}
 use native.Mathlib.Omega.{arith}
-use borrow.Author.Tests.{ltb-true, lt-ltb}
+use borrow.Author.Tests.{ltb-true, lt-ltb, not-true, not-false}
 use lib.Dec.{ltb}
 use Rattle.lists.proofs.Flags.{and-both, and-first, and-second}
 use Rattle.bin_section.specs.declared.section.BinSection.{BinSection}
@@ -72,3 +72,18 @@ module _ (a b : BinSection) where
       ap₂ _&&_ (meet-swap (a .x) (a .whd .width) (b .x) (b .whd .width))
       (ap₂ _&&_ (meet-swap (a .y) (a .whd .height) (b .y) (b .whd .height))
       (meet-swap (a .z) (a .whd .depth) (b .z) (b .whd .depth)))
+
+  -- the first axis looked at alone first
+  module _ (p : Bool) (x : p ≡ spansMeet (a .x) (a .whd .width) (b .x) (b .whd .width)) where
+    pub first-apart : not p ≡ true → false ≡ overlapsOf a b
+    unfolding overlapsOf
+    first-apart h = rw (← x, not-true p h)
+
+    pub first-meets :
+        not p ≡ false
+        → (q r : Bool)
+        → q ≡ spansMeet (a .y) (a .whd .height) (b .y) (b .whd .height)
+        → r ≡ spansMeet (a .z) (a .whd .depth) (b .z) (b .whd .depth)
+        → (q && r) ≡ overlapsOf a b
+    unfolding overlapsOf
+    first-meets h q r y z = rw (← x, not-false p h, ← y, ← z)

@@ -5,12 +5,15 @@ ghost use Rattle.bin_section.specs.Overlap.{spansMeet, overlapsOf};
 use crate::section::BinSection;
 
 impl BinSection {
+    // Most boxes lie apart along the first axis, so it is looked at alone first.
     pub fn overlaps(self, other: BinSection) -> bool
         ensures { λ r. ⌜ r ≡ overlapsOf self other ⌝ }
     {
-        spans_meet(self.x, self.whd.width, other.x, other.whd.width)
-            & (spans_meet(self.y, self.whd.height, other.y, other.whd.height)
-                & spans_meet(self.z, self.whd.depth, other.z, other.whd.depth))
+        if !spans_meet(self.x, self.whd.width, other.x, other.whd.width) {
+            return false;
+        }
+        spans_meet(self.y, self.whd.height, other.y, other.whd.height)
+            & spans_meet(self.z, self.whd.depth, other.z, other.whd.depth)
     }
 }
 

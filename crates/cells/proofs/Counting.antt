@@ -5,8 +5,6 @@ use mathlib.Core.List.{List, [], _∷_}
 use Prim.Native.Nat.{ℕ, suc, _+_, _≤_, _<_}
 use native.Mathlib.Omega.{arith}
 use lib.ListN.{length}
-use Rattle.lists.specs.Sum.{sumTo}
-use Rattle.lists.proofs.Sums.{sum-first}
 use Rattle.bin_section.specs.declared.width_height_depth.WidthHeightDepth.{WidthHeightDepth}
 use Rattle.bin_section.specs.declared.section.BinSection.{BinSection}
 use Rattle.bin_section.specs.Sides.{volumeOf}
@@ -14,14 +12,6 @@ use Rattle.bin_section.specs.Cell.{SharesCell}
 use Rattle.cells.specs.Whole.{boxAt, Inside, AllInside, Apart, Whole, Gap, volumes}
 use Rattle.cells.proofs.Grid.{cells, has, has-cells, cells-zero, cells-add, cells-most, cells-full, cells-all, cells-less}
 use Rattle.cells.proofs.Held.{held, held-some, apart-once, whole-held}
-
--- the sum of volumes, index by index
-pub volumes-sum : (boxes : List BinSection) → sumTo (length boxes) (λ i. volumeOf (boxAt boxes i .whd)) ≡ volumes boxes
-unfolding volumes sumTo
-volumes-sum [] = refl
-volumes-sum (b ∷ bs) =
-    sum-first (length bs) (λ i. volumeOf (boxAt (b ∷ bs) i .whd))
-    ∙ ap (λ (s : ℕ). volumeOf (b .whd) + s) (volumes-sum bs)
 
 module _ (whd : WidthHeightDepth) where
   -- counted cell by cell and box by box

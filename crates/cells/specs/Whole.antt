@@ -1,18 +1,14 @@
 -- What it means in unit cells that a list of boxes fills a chamber.
 use mathlib.Core.Path.{_≡_}
-use mathlib.Core.List.{List, [], _∷_}
-use Prim.Native.Nat.{ℕ, _+_, _<_}
-use lib.ListN.{length, getD}
+use mathlib.Core.List.{List}
+use Prim.Native.Nat.{ℕ, _<_}
+use lib.ListN.{length}
 use Rattle.bin_section.specs.declared.width_height_depth.WidthHeightDepth.{WidthHeightDepth}
 use Rattle.bin_section.specs.declared.section.BinSection.{BinSection}
-use Rattle.bin_section.specs.Sides.{volumeOf}
-use Rattle.bin_section.specs.Section.{zeroSection}
 use Rattle.bin_section.specs.Cell.{HasCell, SharesCell}
 pub use Rattle.bin_section.specs.Inside.{Inside}
-
--- the box at an index of the list
-abbrev pub boxAt : List BinSection → ℕ → BinSection
-boxAt boxes i = getD boxes i zeroSection
+pub use Rattle.bin_section.specs.Boxes.{boxAt}
+unfoldable pub use Rattle.bin_section.specs.Boxes.{volumes}
 
 -- each box of the list "lies inside with no zero side"
 pub record AllInside (whd : WidthHeightDepth) (boxes : List BinSection) : Type 0 where
@@ -47,8 +43,3 @@ pub record Gap (whd : WidthHeightDepth) (boxes : List BinSection) : Type 0 where
   pub cz : ℕ
   pub cell : InChamber whd cx cy cz
   pub free : (i : ℕ) → i < length boxes → ¬ (HasCell (boxAt boxes i) cx cy cz)
-
--- the sum of the boxes' volumes
-unfoldable pub volumes : List BinSection → ℕ
-volumes [] = 0
-volumes (b ∷ bs) = volumeOf (b .whd) + volumes bs

@@ -54,7 +54,6 @@ words-long boxes = length-joined (λ s. wordsOf s) 6 boxes (λ s. refl)
 
 -- the words of a list of boxes, read again
 boxes-again : (boxes : List BinSection) → boxesOf (allWords boxes) ≡ boxes
-unfolding boxesOf sections
 boxes-again boxes =
     let many : length (allWords boxes) / 6 ≡ length boxes = omega (arith, words-long boxes) in
     ap (λ (n : ℕ). sections (allWords boxes) n) many
@@ -66,7 +65,6 @@ module _ (part : List ℕ) (n : ℕ) (fits : n * 6 ≤ length part) where
   counted-long = length-take-le (n * 6) part fits
 
   counted-boxes : boxesOf (take (n * 6) part) ≡ sections part n
-  unfolding boxesOf sections
   counted-boxes =
       let many : length (take (n * 6) part) / 6 ≡ n = omega (arith, counted-long) in
       ap (λ (k : ℕ). sections (take (n * 6) part) k) many

@@ -16,6 +16,7 @@ use Rattle.bin_section.specs.Overlap.{spansMeet, overlapsOf}
 use Rattle.replies.specs.Replies.{reply, inOrder}
 use Rattle.cells.specs.Whole.{volumes}
 use Rattle.sections.specs.Sections.{sections, joined, allWords}
+use Rattle.sections.specs.Inside.{sharesEarlier}
 use Rattle.bin_section.specs.Inside.{spanInside, insideOf}
 use Rattle.try_place.specs.Splits.{sixSplits}
 use Rattle.try_place.specs.Choice.{chosen, ranksOf, bestOf, bestFrom, laterOf, betterOf}
@@ -145,7 +146,7 @@ unfolding lowest anyBelow picked sumTo tab removeAt put sectionAt spansMeet over
     rectsAt trialIn firstWhole changed packGroups rectLengthsOk noRoom rectChecks packChecks start packing binsWith written packOf
     placedIn boxOf newBoxes places afterPack sameBox takenOut afterReturn
     lentChambers lentStore three faulty two returnedBox chamberWith free₀ free₁ free₄ free₅ records₁ records₅
-    auditAt audit.boxesOf audit.auditBoxes audit.lengthsOk audit.sharesEarlier audit.auditReply audit.shownOf
+    auditAt audit.auditBoxes audit.lengthsOk sharesEarlier audit.auditReply audit.shownOf
     audit.auditOf ledger₁ ledger₂ ledger₃ ledger₄ ledger₅
 jobs =
     record {

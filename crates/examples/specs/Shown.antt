@@ -26,6 +26,7 @@ use Rattle.try_place.specs.Try.{spanOk, fitChecks, fitOf, tryChecks, tryOf, num
 use Rattle.packing_rules.specs.Appended.{larger, keptOne, kept, appendedOf}
 use Rattle.words.specs.Words.{joined}
 use Rattle.sections.specs.Sections.{sections}
+use Rattle.sections.specs.Inside.{sharesEarlier}
 use Rattle.target_bin.specs.Chambers.{chamberAt, chamberOf, chambersOf}
 use Rattle.target_bin.specs.Checks.{lengthsOk, idOk, shapeOk, chamberOk, badSections}
 use Rattle.target_bin.specs.Store.{partAt, freeAt, freeOf, partOf}
@@ -120,7 +121,7 @@ pub record AuditShown : Type 0 where
 
 unfoldable pub audited : WidthHeightDepth → List ℕ → List ℕ → AuditShown
 unfolding lowest anyBelow tab inOrder sectionAt spansMeet overlapsOf spanInside insideOf sideOk volumes
-    auditing.boxesOf auditing.auditBoxes auditing.lengthsOk auditing.sharesEarlier auditing.auditReply auditing.shownOf auditing.auditOf
+    sections auditing.auditBoxes auditing.lengthsOk sharesEarlier auditing.auditReply auditing.shownOf auditing.auditOf
 audited whd placed free =
     let a = auditing.auditOf whd placed free in
     record { answer = a .answer; shown = a .shown; sum = volumes (auditing.auditBoxes placed free) }

@@ -2,7 +2,7 @@
 use mathlib.Core.Path.{_≡_, refl, sym, ap, ap₂, _∙_}
 use mathlib.Core.Logic.{_⊎_, inl, inr}
 use mathlib.Core.Bool.{Bool, true, false, _||_, cond}
-use Prim.Native.Nat.{ℕ, zero, suc, _+_, _≤_, _<_}
+use Prim.Native.Nat.{ℕ, zero, suc, _+_, _-_, _≤_, _<_, min}
 use native.Mathlib.Nat.{eq-or-lt-of-le, le-of-suc-le-suc, not-suc-le-zero, le-step, lt-suc-self, add-zero, add-suc}
 use native.Mathlib.Decide.{decLt}
 use native.Mathlib.Numerals.{add-one}
@@ -92,6 +92,88 @@ lowest-fires (suc n) f h = go (lowest-fires n (λ k. f (suc k))) (f 0) refl h
 
 pub none-of-lowest : (n : ℕ) (f : ℕ → Bool) → n ≤ lowest n f → None n f
 none-of-lowest n f h = none-less n (lowest n f) f (none-below-lowest n f) h
+
+-- ---- a search that has come to i, where no number below i fires
+
+module _ (n i : ℕ) (f : ℕ → Bool) (come : i ≤ lowest n f) where
+  -- it fires there
+  pub lowest-at : i < n → f i ≡ true → i ≡ lowest n f
+  lowest-at l e = go (eq-or-lt-of-le come)
+    where
+      go : (i ≡ lowest n f) ⊎ (i < lowest n f) → i ≡ lowest n f
+      go (inl q) = q
+      go (inr h) = absurd (true-false (sym e ∙ none-below-lowest n f .at i h))
+
+  -- it does not
+  pub lowest-next : i < n → f i ≡ false → i + 1 ≤ lowest n f
+  lowest-next l e = go (eq-or-lt-of-le come)
+    where
+      go : (i ≡ lowest n f) ⊎ (i < lowest n f) → i + 1 ≤ lowest n f
+      go (inl q) = absurd (true-false (sym (lowest-fires n f (omega arith)) ∙ ap f (sym q) ∙ e))
+      go (inr h) = omega arith
+
+  -- there is no more
+  pub lowest-over : n ≤ i → n ≡ lowest n f
+  lowest-over h = omega (arith, lowest-most n f)
+
+-- among the first m of n alone
+module _ (m n : ℕ) (f : ℕ → Bool) (fewer : m ≤ n) where
+  among : lowest m f ≡ min m (lowest n f)
+  among = go (decLt (lowest n f) m)
+    where
+      go : Dec (lowest n f < m) → lowest m f ≡ min m (lowest n f)
+      go (yes l) = lowest-here m (lowest n f) f (none-below-lowest n f) l (lowest-fires n f (omega arith)) ∙ omega arith
+      go (no l) = lowest-end m (lowest n f) f (none-below-lowest n f) (omega arith) ∙ omega arith
+
+  pub among-come : (i : ℕ) → i ≤ m → i ≤ lowest n f → i ≤ lowest m f
+  among-come i l h = omega (arith, among)
+
+  pub among-found : (r : ℕ) → r ≡ lowest m f → r < m → r ≡ lowest n f
+  among-found r e l = omega (arith, among)
+
+  pub among-none : (r : ℕ) → r ≡ lowest m f → m ≤ r → m ≤ lowest n f
+  among-none r e l = omega (arith, among)
+
+-- it passes over m of them
+pub lowest-past : (n i m : ℕ) (f : ℕ → Bool) → i ≤ lowest n f → i + m ≤ n → anyBelow m (λ k. f (i + k)) ≡ false → i + m ≤ lowest n f
+unfolding anyBelow
+lowest-past n i zero f come l e = rw add-zero come
+lowest-past n i (suc m) f come l e =
+    let far = anyBelow m (λ k. f (i + k)) in
+    omega (arith, lowest-next n (i + m) f (lowest-past n i m f come (omega arith) (or-first far (f (i + m)) e)) (omega arith) (or-second far (f (i + m)) e))
+
+-- ---- a search through two ranges, each with a test of its own, one range behind the other
+
+module _ (m n all : ℕ) (whole : all ≡ m + n) (f g t : ℕ → Bool)
+    (same-first : (i : ℕ) → i < m → f i ≡ t i)
+    (same-second : (k : ℕ) → k < n → g k ≡ t (m + k))
+    (r : ℕ) (found : r ≡ lowest m f) where
+  -- it fires in the first
+  pub lowest-first : r < m → r ≡ lowest all t
+  lowest-first h =
+      sym (lowest-here all r t
+      (record { at = λ i l. sym (same-first i (omega arith)) ∙ none-below-lowest m f .at i (omega arith) })
+      (omega arith)
+      (sym (same-first r h) ∙ ap f found ∙ lowest-fires m f (omega arith)))
+
+  -- it does not, and so it is the second's
+  pub lowest-second : m ≤ r → (s : ℕ) → s ≡ lowest n g → m + s ≡ lowest all t
+  lowest-second h s e = go (decLt s n)
+    where
+      at : (i : ℕ) → i < m + s → Dec (i < m) → t i ≡ false
+      at i l (yes b) = sym (same-first i b) ∙ none-of-lowest m f (omega arith) .at i b
+      at i l (no b) =
+          let back : m + (i - m) ≡ i = omega arith in
+          ap t (sym back) ∙ sym (same-second (i - m) (omega (arith, lowest-most n g))) ∙ none-below-lowest n g .at (i - m) (omega arith)
+
+      none : None (m + s) t
+      none = record { at = λ i l. at i l (decLt i m) }
+
+      go : Dec (s < n) → m + s ≡ lowest all t
+      go (yes l) = sym (lowest-here all (m + s) t none (omega arith) (sym (same-second s l) ∙ ap g e ∙ lowest-fires n g (omega arith)))
+      go (no l) =
+          let end : m + s ≡ all = omega (arith, lowest-most n g) in
+          end ∙ sym (lowest-end all (m + s) t none (omega arith))
 
 -- ---- whether any fires
 

@@ -1,2 +1,4 @@
 pub mod Reading
 pub mod Moves
+pub mod Nearing
+pub mod Searching

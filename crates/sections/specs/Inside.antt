@@ -1,10 +1,13 @@
--- Tests on the section at an index of a list of words: outside its chamber, and a cell shared with a box.
-use Prim.Native.Nat.{ℕ}
+-- Tests on the sections of a list: outside the chamber, a cell shared with a box or with an earlier section, small sides.
+use Prim.Native.Nat.{ℕ, _<_}
 use mathlib.Core.List.{List}
 use mathlib.Core.Bool.{Bool}
+use Rattle.lists.specs.Lowest.{anyBelow}
 use Rattle.bin_section.specs.declared.section.BinSection.{BinSection}
 use Rattle.bin_section.specs.declared.width_height_depth.WidthHeightDepth.{WidthHeightDepth}
+use Rattle.bin_section.specs.Sides.{Small}
 use Rattle.bin_section.specs.Section.{sectionAt}
+use Rattle.bin_section.specs.Boxes.{boxAt}
 use Rattle.bin_section.specs.Overlap.{overlapsOf}
 use Rattle.bin_section.specs.Inside.{outside}
 unfoldable pub use Rattle.bin_section.specs.Inside.{insideOf}
@@ -16,3 +19,11 @@ outsideAt whd w i = outside whd (sectionAt w i)
 -- "shares a cell with the box", of the section at an index
 abbrev pub sharesAt : BinSection → List ℕ → ℕ → Bool
 sharesAt box w i = overlapsOf (sectionAt w i) box
+
+-- "a box shares a cell with an earlier one", of the box at an index of a list
+unfoldable pub sharesEarlier : List BinSection → ℕ → Bool
+sharesEarlier boxes j = anyBelow j (λ i. overlapsOf (boxAt boxes i) (boxAt boxes j))
+
+-- no side of the first n sections is above 65,535
+pub record AllSmall (n : ℕ) (w : List ℕ) : Type 0 where
+  pub at : (i : ℕ) → i < n → Small (sectionAt w i .whd)

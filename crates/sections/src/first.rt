@@ -3,7 +3,9 @@ ghost use mathlib.Core.Path.{_≡_};
 ghost use Prim.Native.Nat.{_*_, _≤_};
 ghost use lib.ListN.{length};
 ghost use Rattle.lists.specs.Lowest.{lowest};
-ghost use Rattle.sections.specs.Inside.{outsideAt, sharesAt};
+ghost use Rattle.sections.specs.Sections.{sections};
+ghost use Rattle.sections.specs.Inside.{outsideAt, sharesEarlier};
+use crate::near::first_sharing;
 use bin_section::BinSection;
 use bin_section::WidthHeightDepth;
 use bin_section::inside;
@@ -24,15 +26,15 @@ pub fn first_outside(words: &[u32], n: usize, whd: WidthHeightDepth) -> usize
     n
 }
 
-// The first of the n sections that shares a cell with the box; n where none does.
-pub fn first_sharing(words: &[u32], n: usize, other: BinSection) -> usize
+// The first of the n sections that shares a cell with an earlier one; n where none does.
+pub fn first_shared(words: &[u32], n: usize) -> usize
     requires { ⌜ n * 6 ≤ length (now words) ⌝ }
-    ensures { λ r. ⌜ r ≡ lowest n (sharesAt other (now (words .entry))) ⌝ }
+    ensures { λ r. ⌜ r ≡ lowest n (sharesEarlier (sections (now (words .entry)) n)) ⌝ }
 {
     let mut i = 0;
     while i < n {
         let section = BinSection::read(words, i);
-        if section.overlaps(other) {
+        if first_sharing(words, i, section) < i {
             return i;
         }
         i += 1;

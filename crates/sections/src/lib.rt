@@ -1,9 +1,13 @@
-// The sections of one list of six words each: tests on them, removal, append and clearing.
+// The sections of one list of six words each: searches, the sum of their volumes, removal, append and clearing.
 mod available;
 mod first;
+mod near;
+mod volumes;
 
 pub use available::append_section;
 pub use available::clear_past;
 pub use available::remove_section;
 pub use first::first_outside;
-pub use first::first_sharing;
+pub use first::first_shared;
+pub use near::first_sharing;
+pub use volumes::sum_of_volumes;

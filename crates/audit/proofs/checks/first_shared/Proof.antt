@@ -1,22 +1,20 @@
-use Rattle.lists.proofs.Kit.{_-_, arith, needs}
-use Rattle.lists.proofs.Lowests.{None, none-zero, none-more}
-use Rattle.audit.specs.Audit.{auditBoxes, sharesEarlier}
-use Rattle.audit.proofs.TwoLists.{found, found-none}
+use Rattle.lists.proofs.Kit.{_+_, _/_, now, length, arith, needs}
+use Rattle.lists.proofs.Lowests.{lowest-most}
+use Rattle.sections.specs.Inside.{sharesEarlier}
+use Rattle.audit.specs.Audit.{auditBoxes}
+use Rattle.audit.proofs.TwoLists.{shared-placed, shared-free}
 use Rattle.audit.proofs.checks.first_shared as it
 
-abbrev Inv-loop : it.Tie.InvT-loop
-Inv-loop placed free n j₀ j = None j (sharesEarlier (auditBoxes placed free))
-
-abbrev μ-loop : it.Tie.MeasureT-loop
-μ-loop placed free n j₀ j = n - j
-
-returns : it.Tie.Need-returns Inv-loop μ-loop
-returns c = let l = c .before .before .before in found _ _ _ _ _ (omega arith) (l .loop .inv) (c .before .before .loop-test .taken) (cc)
+add-first : it.Tie.Need-add-result
+add-first c =
+    let a = c .before .before .before .before .before .before .args in
+    omega (arith, lowest-most (length (now (a .free)) / 6) (λ k. sharesEarlier (auditBoxes (now (a .placed)) (now (a .free))) (length (now (a .placed)) / 6 + k)))
 
 pub first-shared-spec : {M : Type 1} → it.Statement.statement M
 first-shared-spec =
     it.Tie.close
-    (it.Tie.spec Inv-loop μ-loop (λ c κs. search needs) (λ c κs. search needs) (λ c. omega arith) (λ c. none-zero _)
-    (λ c κs. omega arith) returns (λ c. omega arith) (λ c. omega arith)
-    (λ c. none-more _ _ (c .before .before .before .loop .inv) (cc))
-    (λ c. found-none _ _ _ _ _ (omega arith) (c .before .loop .inv) (c .loop-test .left)))
+    (it.Tie.spec (λ c κs. search needs) (λ c κs. search needs)
+    (λ c. shared-placed _ _ _ (c .before .before .boxes-in .ensures) _ (c .before .first-shared .ensures) (c .if1 .taken))
+    (λ c κs. search needs) add-first
+    (λ c. let e = c .before in
+        shared-free _ _ _ (e .before .before .boxes-in .ensures) _ (e .before .first-shared .ensures) (e .if1 .left) _ (c .first-free-shared .ensures)))

@@ -1,4 +1,4 @@
--- Laws of the quick test of pairs: a bit that is in both differences where two spans meet, and the boxes of a list four at a time.
+-- Laws of the quick test: a bit that is in both differences where two spans meet, and the sections of a list four at a time.
 use Prim.Native.Nat.{ℕ, zero, suc, _+_, _*_, _%_, _-_, _^_, _≤_, _<_, min, max}
 use mathlib.Core.Path.{_≡_, refl, sym, ap₂, _∙_}
 use mathlib.Core.Bool.{Bool, true, false, _&&_, _||_}
@@ -9,7 +9,6 @@ use lib.Dec.{ltb}
 use lib.Bits.{bitAnd, bitOr, and-block, and-le-r, or-add-and, or-comm}
 use Rattle.lists.specs.Lowest.{anyBelow}
 use Rattle.lists.proofs.Flags.{and-first}
-use Rattle.lists.proofs.Lowests.{any-parts, any-some, any-here}
 use Rattle.bin_section.specs.declared.section.BinSection.{BinSection}
 use Rattle.bin_section.specs.Overlap.{spansMeet, overlapsOf}
 
@@ -62,7 +61,7 @@ or-keeps a b = omega (arith, or-add-and a b, and-le-r a b)
 pub or-keeps-second : (a b : ℕ) → b ≤ bitOr a b
 or-keeps-second a b = rw (or-comm a b) (or-keeps b a)
 
--- ---- the boxes
+-- ---- four sections
 
 module _ (f : ℕ → Bool) (i p q r s : ℕ)
     (hp : f i ≡ true → 9223372036854775808 ≤ p)
@@ -81,16 +80,3 @@ module _ (f : ℕ → Bool) (i p q r s : ℕ)
         ← far-false (f (i + 2)) r hr (omega (arith, below, rs, or-keeps r s)),
         ← far-false (f (i + 3)) s hs (omega (arith, below, rs, or-keeps-second r s)),
       )
-
-pub any-zero : (f : ℕ → Bool) → anyBelow 0 f ≡ false
-unfolding anyBelow
-any-zero f = refl
-
-module _ (f : ℕ → Bool) (i n : ℕ) where
-  -- one part more, in which the test fires at none
-  pub parts-none : anyBelow i f ≡ false → anyBelow n (λ k. f (i + k)) ≡ false → anyBelow (i + n) f ≡ false
-  parts-none before e = any-parts i n f ∙ rw before e
-
-  -- a part in which it fires
-  pub part-fires : (m : ℕ) → i + n ≤ m → anyBelow n (λ k. f (i + k)) ≡ true → anyBelow m f ≡ true
-  part-fires m h e = let (k, l, t) = any-some n (λ k. f (i + k)) e in any-here m (i + k) f (omega arith) t

@@ -1,14 +1,13 @@
-use Rattle.lists.proofs.Kit.{now, _≡_, sym, _∙_, arith, needs}
-use Rattle.bin_section.specs.Section.{sectionAt}
-use Rattle.bin_section.specs.Overlap.{overlapsOf}
-use Rattle.audit.proofs.Nearing.{four-far}
+use Rattle.lists.proofs.Kit.{now, needs}
+use Rattle.sections.specs.Inside.{sharesAt}
+use Rattle.sections.proofs.Nearing.{four-far}
 use borrow.Author.Tests.{leb-false}
-use Rattle.audit.proofs.near.some_near as it
+use Rattle.sections.proofs.near.some_near as it
 
 returns : it.Tie.Need-returns
 returns c e =
     let a = c .before .before .before .before .before .args in
-    four-far (λ k. overlapsOf (sectionAt (now (a .words)) k) (a .b)) (a .i) _ _ _ _ (c .before .before .before .nearness-at .ensures)
+    four-far (sharesAt (a .other) (now (a .words))) (a .i) _ _ _ _ (c .before .before .before .nearness-at .ensures)
     (c .before .before .nearness-at2 .ensures) (c .before .nearness-at3 .ensures) (c .nearness-at4 .ensures) (leb-false _ _ e)
 
 pub some-near-spec : {M : Type 1} → it.Statement.statement M

@@ -1,6 +1,6 @@
 use Rattle.lists.proofs.Kit.{arith, needs}
-use Rattle.audit.proofs.Nearing.{meet-near}
-use Rattle.audit.proofs.near.nearness as it
+use Rattle.sections.proofs.Nearing.{meet-near}
+use Rattle.sections.proofs.near.nearness as it
 
 returns : it.Tie.Need-returns
 returns c = meet-near _ _ _ _ _ _ (omega arith) (omega arith) (omega arith) (omega arith) (omega arith) (omega arith) (c .before .wrapping-sub-u64 .ensures) (c .wrapping-sub-u642 .ensures)

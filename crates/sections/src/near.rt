@@ -1,0 +1,117 @@
+// The first section of a list that shares a cell with a box. Among many it goes four at a time: most lie apart along the first axis, and
+// one test there passes over four.
+ghost use mathlib.Core.Path.{_≡_};
+ghost use mathlib.Core.Bool.{true, false};
+ghost use Prim.Native.Nat.{_+_, _*_, _≤_, min};
+ghost use lib.ListN.{length};
+ghost use Rattle.lists.specs.Lowest.{lowest, anyBelow};
+ghost use Rattle.bin_section.specs.Overlap.{spansMeet};
+ghost use Rattle.sections.specs.Inside.{sharesAt};
+use bin_section::BinSection;
+
+// Up to so many, as one chamber has, each section is looked at: passing over pays among hundreds.
+const FEW: usize = 128;
+
+// The highest bit: 2 to the 63.
+const NEAR: u64 = 9223372036854775808;
+
+// Below NEAR only where two spans do not meet. Where they do, each starts before the other's end, so both differences wrap and have the
+// bit. It takes no branch.
+fn nearness(start1: u32, side1: u32, start2: u32, side2: u32) -> u64
+    ensures { λ r. ⌜ (spansMeet start1 side1 start2 side2 ≡ true → 9223372036854775808 ≤ r) ⌝ }
+{
+    let end1 = (start1 as u64) + (side1 as u64);
+    let end2 = (start2 as u64) + (side2 as u64);
+    let past1 = std::num::wrapping_sub_u64(start2 as u64, end1);
+    let past2 = std::num::wrapping_sub_u64(start1 as u64, end2);
+    past1 & past2
+}
+
+// The same of the section at index i and the box, along the first axis.
+fn nearness_at(words: &[u32], i: usize, other: BinSection) -> u64
+    requires { ⌜ i * 6 + 6 ≤ length (now words) ⌝ }
+    ensures { λ r. ⌜ (sharesAt other (now (words .entry)) i ≡ true → 9223372036854775808 ≤ r) ⌝ }
+{
+    let section = BinSection::read(words, i);
+    nearness(section.x, section.whd.width, other.x, other.whd.width)
+}
+
+// False only where none of the four sections from index i on shares a cell with the box.
+fn some_near(words: &[u32], i: usize, other: BinSection) -> bool
+    requires { ⌜ (i + 4) * 6 ≤ length (now words) ⌝ }
+    ensures { λ r. ⌜ (r ≡ false → anyBelow 4 (λ k. sharesAt other (now (words .entry)) (i + k)) ≡ false) ⌝ }
+{
+    let first = nearness_at(words, i, other);
+    let second = nearness_at(words, i + 1, other);
+    let third = nearness_at(words, i + 2, other);
+    let fourth = nearness_at(words, i + 3, other);
+    NEAR <= (first | second) | (third | fourth)
+}
+
+// Passes over sections from index i on, four at a time, as long as none of the four is near the box. The index that it comes to is
+// returned. It stands by itself, so that the compiled loop is short.
+fn pass_over(words: &[u32], i: usize, n: usize, other: BinSection) -> usize
+    requires { ⌜ (n * 6 ≤ length (now words)) × (i ≤ lowest n (sharesAt other (now words))) ⌝ }
+    ensures { λ r. ⌜ (i ≤ r) × (r ≤ n) × (r ≤ lowest n (sharesAt other (now (words .entry)))) ⌝ }
+{
+    let mut j = i;
+    while j + 4 <= n {
+        if some_near(words, j, other) {
+            return j;
+        }
+        j += 4;
+    }
+    j
+}
+
+// The first section from index i on that shares a cell with the box, each looked at; n where none does. None before i does.
+fn first_from(words: &[u32], i: usize, n: usize, other: BinSection) -> usize
+    requires { ⌜ (n * 6 ≤ length (now words)) × (i ≤ lowest n (sharesAt other (now words))) ⌝ }
+    ensures { λ r. ⌜ r ≡ lowest n (sharesAt other (now (words .entry))) ⌝ }
+{
+    let mut k = i;
+    while k < n {
+        if BinSection::read(words, k).overlaps(other) {
+            return k;
+        }
+        k += 1;
+    }
+    n
+}
+
+// Where the four sections from index i on end, or the n if there are fewer.
+fn end_of_four(i: usize, n: usize) -> usize
+    requires { ⌜ i ≤ n ⌝ }
+    ensures { λ r. ⌜ r ≡ min (i + 4) n ⌝ }
+{
+    if n - i < 4 { n } else { i + 4 }
+}
+
+// The same among many: of four that are not passed over each is looked at.
+fn first_of_many(words: &[u32], n: usize, other: BinSection) -> usize
+    requires { ⌜ n * 6 ≤ length (now words) ⌝ }
+    ensures { λ r. ⌜ r ≡ lowest n (sharesAt other (now (words .entry))) ⌝ }
+{
+    let mut i = 0;
+    while i < n {
+        let at = pass_over(words, i, n, other);
+        let end = end_of_four(at, n);
+        let found = first_from(words, at, end, other);
+        if found < end {
+            return found;
+        }
+        i = end;
+    }
+    n
+}
+
+// The first of the n sections that shares a cell with the box; n where none does.
+pub fn first_sharing(words: &[u32], n: usize, other: BinSection) -> usize
+    requires { ⌜ n * 6 ≤ length (now words) ⌝ }
+    ensures { λ r. ⌜ r ≡ lowest n (sharesAt other (now (words .entry))) ⌝ }
+{
+    if n <= FEW {
+        return first_from(words, 0, n, other);
+    }
+    first_of_many(words, n, other)
+}
