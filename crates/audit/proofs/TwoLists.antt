@@ -19,7 +19,8 @@ use Rattle.bin_section.specs.Overlap.{overlapsOf}
 use Rattle.cells.specs.Whole.{boxAt, Inside, AllInside, volumes}
 use Rattle.sections.specs.Sections.{sections}
 use Rattle.sections.specs.Inside.{sharesAt, sharesEarlier, AllSmall}
-use Rattle.sections.proofs.Reading.{length-sections, getD-sections, words-of-section}
+use Rattle.sections.proofs.Reading.{length-sections, getD-sections}
+use Rattle.bin_section.proofs.Words.{section-layout}
 use Rattle.sections.proofs.Searching.{volumes-append}
 use Rattle.audit.specs.Audit.{boxesOf, auditBoxes}
 
@@ -71,12 +72,12 @@ module _ (placed free : List ℕ) where
   words-box i whole h = go (decLt i (length placed / 6))
     where
       go : Dec (i < length placed / 6) → take 6 (drop (i * 6) (placed ++ free)) ≡ wordsOf (boxAt boxes i)
-      go (yes l) = sym (words-placed i l) ∙ sym (words-of-section placed i (omega arith)) ∙ ap wordsOf (sym (box-placed i l))
+      go (yes l) = sym (words-placed i l) ∙ sym (section-layout .written-back placed i (omega arith)) ∙ ap wordsOf (sym (box-placed i l))
       go (no l) =
           let k = i - length placed / 6 in
           let e : length placed / 6 + k ≡ i = omega arith in
           sym (words-free i (length placed / 6) whole refl (omega arith))
-          ∙ sym (words-of-section free k (omega arith))
+          ∙ sym (section-layout .written-back free k (omega arith))
           ∙ ap wordsOf (sym (box-free k (omega arith)) ∙ ap (λ (n : ℕ). boxAt boxes n) e)
 
   -- ---- a search through both lists; `first` is how many boxes the placed one has

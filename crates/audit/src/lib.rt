@@ -18,24 +18,12 @@ use checks::first_outside;
 use checks::first_shared;
 use replies::Reply;
 
-// The numbers of an audit's replies, and its limit.
+// The audit's limit.
 pub struct ChamberAudit {}
 
 impl ChamberAudit {
     // "at most 1,024 boxes together"
     pub const MOST_BOXES: usize = 1024;
-
-    pub const WHOLE: u32 = 0;
-
-    pub const BAD_LENGTH: u32 = 1;
-
-    pub const BAD_CHAMBER: u32 = 2;
-
-    pub const OUTSIDE: u32 = 16;
-
-    pub const SHARED: u32 = 17;
-
-    pub const GAP: u32 = 18;
 }
 
 fn lengths_ok(placed: &[u32], free: &[u32]) -> bool
@@ -46,29 +34,29 @@ fn lengths_ok(placed: &[u32], free: &[u32]) -> bool
             & (boxes_in(placed) + boxes_in(free) <= ChamberAudit::MOST_BOXES))
 }
 
-// The first check that fires answers, else the chamber is whole.
-fn reply_of(whd: WidthHeightDepth, placed: &[u32], free: &[u32]) -> Reply
+// The reply of an audit: the first check that fires answers, else the chamber is whole.
+pub fn audit_reply(whd: WidthHeightDepth, placed: &[u32], free: &[u32]) -> Reply
     ensures { λ r. ⌜ r ≡ auditReply whd (now (placed .entry)) (now (free .entry)) ⌝ }
 {
     if !lengths_ok(placed, free) {
-        return Reply::new(ChamberAudit::BAD_LENGTH, 0);
+        return Reply::new(Reply::BAD_LENGTH, 0);
     }
     if !whd.in_range() {
-        return Reply::new(ChamberAudit::BAD_CHAMBER, 0);
+        return Reply::new(Reply::BAD_CHAMBER, 0);
     }
     let n = boxes_in(placed) + boxes_in(free);
     let out = first_outside(whd, placed, free);
     if out < n {
-        return Reply::new(ChamberAudit::OUTSIDE, out as u32);
+        return Reply::new(Reply::OUTSIDE, out as u32);
     }
     let shared = first_shared(placed, free);
     if shared < n {
-        return Reply::new(ChamberAudit::SHARED, shared as u32);
+        return Reply::new(Reply::SHARED, shared as u32);
     }
     if !fills(whd, placed, free) {
-        return Reply::new(ChamberAudit::GAP, 0);
+        return Reply::new(Reply::GAP, 0);
     }
-    Reply::new(ChamberAudit::WHOLE, 0)
+    Reply::new(Reply::DONE, 0)
 }
 
 // The six words of box i where they lie: in the placed list, or past its boxes in the free list.
@@ -87,7 +75,8 @@ fn words_of_box<'a>(placed: &'a [u32], free: &'a [u32], i: usize) -> &'a [u32]
     &free[at..end]
 }
 
-// Audit a chamber. The reply goes through number and detail; the part that is returned shows the faulty box of replies 16 and 17.
+// Audit a chamber. The reply goes through number and detail; the part that is returned shows the faulty box of replies 16 and 17. Who needs
+// the reply alone calls audit_reply.
 pub fn audit<'a>(
     whd: WidthHeightDepth,
     placed: &'a [u32],
@@ -97,10 +86,10 @@ pub fn audit<'a>(
 ) -> &'a [u32]
     ensures { λ r. ⌜ (audited (reply (now (number .exit)) (now (detail .exit))) (now r) ≡ auditOf whd (now (placed .entry)) (now (free .entry))) × ShownAt (length (now (placed .entry)) / 6) (ptr (placed .entry)) (ptr (free .entry)) (reply (now (number .exit)) (now (detail .exit))) (ptr r) ⌝ }
 {
-    let answer = reply_of(whd, placed, free);
+    let answer = audit_reply(whd, placed, free);
     *number = answer.number;
     *detail = answer.detail;
-    if (answer.number == ChamberAudit::OUTSIDE) | (answer.number == ChamberAudit::SHARED) {
+    if (answer.number == Reply::OUTSIDE) | (answer.number == Reply::SHARED) {
         return words_of_box(placed, free, answer.detail as usize);
     }
     &placed[..0]

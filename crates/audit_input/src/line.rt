@@ -4,7 +4,6 @@ ghost use Prim.Native.Nat.{_+_, _≤_};
 ghost use lib.ListN.{length};
 ghost use Rattle.text.specs.Written.{Written};
 ghost use Rattle.audit_input.specs.Line.{nameOf, indexOf, lineFor, Wrote};
-use audit::ChamberAudit;
 use replies::Reply;
 use text::write_item;
 use text::write_text;
@@ -14,16 +13,16 @@ fn write_name(line: &mut [u8], number: u32) -> usize
     requires { ⌜ 7 ≤ length (now line) ⌝ }
     ensures { λ r. ⌜ Written 0 (nameOf number) (now (line .entry)) (now (line .exit)) r × (r ≤ 7) ⌝ }
 {
-    if number == ChamberAudit::WHOLE {
+    if number == Reply::DONE {
         return write_text(line, 0, b"WHOLE");
     }
-    if number == ChamberAudit::OUTSIDE {
+    if number == Reply::OUTSIDE {
         return write_text(line, 0, b"OUTSIDE");
     }
-    if number == ChamberAudit::SHARED {
+    if number == Reply::SHARED {
         return write_text(line, 0, b"SHARED");
     }
-    if number == ChamberAudit::GAP {
+    if number == Reply::GAP {
         return write_text(line, 0, b"GAP");
     }
     write_text(line, 0, b"BAD")
@@ -34,7 +33,7 @@ fn write_index(line: &mut [u8], at: usize, answer: Reply) -> usize
     requires { ⌜ at + 11 ≤ length (now line) ⌝ }
     ensures { λ r. ⌜ Written at (indexOf answer) (now (line .entry)) (now (line .exit)) r × (r ≤ at + 11) ⌝ }
 {
-    if (answer.number == ChamberAudit::OUTSIDE) | (answer.number == ChamberAudit::SHARED) {
+    if (answer.number == Reply::OUTSIDE) | (answer.number == Reply::SHARED) {
         return write_item(line, at, b" ", answer.detail);
     }
     at

@@ -4,23 +4,12 @@ ghost use Prim.Native.Nat.{_*_, _≤_};
 ghost use lib.ListN.{length, take};
 ghost use Rattle.audit.specs.Audit.{auditReply};
 ghost use Rattle.audit_input.specs.Line.{inputReply};
-use audit::ChamberAudit;
-use audit::audit;
+use audit::audit_reply;
 use bin_section::BinSection;
-use bin_section::WidthHeightDepth;
 use box_input::BoxInput;
 use box_input::InputHead;
 use box_input::read_input;
 use replies::Reply;
-
-fn audit_reply<'a>(whd: WidthHeightDepth, placed: &'a [u32], free: &'a [u32]) -> Reply
-    ensures { λ r. ⌜ r ≡ auditReply whd (now (placed .entry)) (now (free .entry)) ⌝ }
-{
-    let mut number = 0;
-    let mut detail = 0;
-    audit(whd, placed, free, &mut number, &mut detail);
-    Reply::new(number, detail)
-}
 
 // The reply to an input that was read: its boxes stand at the front of the tables.
 fn reply_read<'a>(said: InputHead, placed: &'a [u32], free: &'a [u32]) -> Reply
@@ -38,7 +27,7 @@ fn reply_with(bytes: &[u8], placed: &mut [u32], free: &mut [u32]) -> Reply
 {
     let input = read_input(bytes, placed, free);
     let BoxInput::Boxes(said) = input else {
-        return Reply::new(ChamberAudit::BAD_LENGTH, 0);
+        return Reply::new(Reply::BAD_LENGTH, 0);
     };
     reply_read(said, placed, free)
 }

@@ -10,7 +10,7 @@ ghost use Rattle.cafunderi.specs.Audit.{auditFace};
 
 mod try_words;
 
-use audit::audit;
+use audit::audit_reply;
 use bin_section::BinSection;
 use bin_section::WidthHeightDepth;
 use rectangle_pack::pack;
@@ -67,15 +67,12 @@ pub extern "C" fn cafunderi_return(
 
 // The reply alone crosses over: its detail says where the faulty box lies.
 #[no_mangle]
-pub extern "C" fn cafunderi_audit<'a>(sides: &[u32], placed: &'a [u32], free: &'a [u32]) -> Reply
+pub extern "C" fn cafunderi_audit(sides: &[u32], placed: &[u32], free: &[u32]) -> Reply
     ensures { λ r. ⌜ r ≡ auditFace (now (sides .entry)) (now (placed .entry)) (now (free .entry)) ⌝ }
 {
     if sides.len() != WidthHeightDepth::WORDS {
         return Reply::new(Reply::BAD_LENGTH, 0);
     }
-    let mut number = 0;
-    let mut detail = 0;
     let whd = WidthHeightDepth::read(sides);
-    audit(whd, placed, free, &mut number, &mut detail);
-    Reply::new(number, detail)
+    audit_reply(whd, placed, free)
 }

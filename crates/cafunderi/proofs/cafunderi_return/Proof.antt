@@ -1,7 +1,7 @@
-use Rattle.lists.proofs.Kit.{ap, _∙_, now, needs}
+use Rattle.lists.proofs.Kit.{refl, ap, _∙_, now, needs}
 use Rattle.bin_section.specs.declared.section.BinSection.{BinSection}
 use Rattle.target_bin.specs.Return.{returnOf}
-use Rattle.target_bin.proofs.Checking.{said}
+use Rattle.target_bin.proofs.Checking.{outcome-is}
 use Rattle.cafunderi.proofs.Faces.{return-refused, return-done}
 use Rattle.cafunderi.proofs.cafunderi_return as it
 
@@ -18,5 +18,5 @@ pub cafunderi-return-spec : {M : Type 1} → it.Statement.statement M
 cafunderi-return-spec =
     it.Tie.close
     (it.Tie.spec (λ c κs. search needs)
-    (λ c. said _ _ (c .new .ensures) ∙ return-refused _ _ _ _ (c .before .if1 .taken)) (λ c κs. search needs)
+    (λ c. outcome-is _ _ _ _ _ _ (c .new .ensures) refl refl ∙ return-refused _ _ _ _ (c .before .if1 .taken)) (λ c κs. search needs)
     (λ c κs. search needs) (λ c. search needs) (λ c. search needs) returns-2)

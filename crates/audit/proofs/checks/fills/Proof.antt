@@ -13,4 +13,4 @@ fills-spec =
     (λ c κs. let s = c .before .before .before .before .before in (search needs, search needs, small-free _ _ _ (s .pre .0) (s .pre .2) _ (c .boxes-in2 .ensures)))
     (λ c. search needs) (λ c κs. search needs)
     (λ c. let f = c .before in let p = f .before .before in
-        ap₂ eqb (volumes-both _ _ _ _ _ _ (p .before .boxes-in .ensures) (p .sum-of-volumes .ensures .0) (f .before .boxes-in2 .ensures) (f .sum-of-volumes2 .ensures .0)) (c .volume .ensures .0)))
+    ap₂ eqb (volumes-both _ _ _ _ _ _ (p .before .boxes-in .ensures) (p .sum-of-volumes .ensures .0) (f .before .boxes-in2 .ensures) (f .sum-of-volumes2 .ensures .0)) (c .volume .ensures .0)))

@@ -15,4 +15,4 @@ first-outside-spec =
     (λ c. let b = c .before .before in tested-placed _ _ _ (b .boxes-in .ensures) (outside _) _ (c .before .first-outside .ensures) (c .if1 .taken))
     (λ c κs. search needs) (λ c κs. search needs) add-first
     (λ c. let e = c .before .before in let b = e .before .before in
-        tested-free _ _ _ (b .boxes-in .ensures) (outside _) _ (e .before .first-outside .ensures) (e .if1 .left) _ _ (c .before .boxes-in2 .ensures) (c .first-outside2 .ensures)))
+    tested-free _ _ _ (b .boxes-in .ensures) (outside _) _ (e .before .first-outside .ensures) (e .if1 .left) _ _ (c .before .boxes-in2 .ensures) (c .first-outside2 .ensures)))

@@ -17,4 +17,4 @@ first-shared-spec =
     (λ c. shared-placed _ _ _ (c .before .before .boxes-in .ensures) _ (c .before .first-shared .ensures) (c .if1 .taken))
     (λ c κs. search needs) add-first
     (λ c. let e = c .before in
-        shared-free _ _ _ (e .before .before .boxes-in .ensures) _ (e .before .first-shared .ensures) (e .if1 .left) _ (c .first-free-shared .ensures)))
+    shared-free _ _ _ (e .before .before .boxes-in .ensures) _ (e .before .first-shared .ensures) (e .if1 .left) _ (c .first-free-shared .ensures)))

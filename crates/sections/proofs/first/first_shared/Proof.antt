@@ -17,8 +17,8 @@ first-shared-spec =
     it.Tie.close
     (it.Tie.spec Inv-loop μ-loop (λ c. search needs) (λ c κs. search needs) (λ c κs. search needs)
     (λ c. lowest-at _ _ _ (search needs) (search needs)
-        (shares-earlier _ _ _ _ _ (search needs) (c .before .before .read .ensures) (c .before .first-sharing .ensures) ∙ lt-ltb _ _ (c .if1 .taken)))
+    (shares-earlier _ _ _ _ _ (search needs) (c .before .before .read .ensures) (c .before .first-sharing .ensures) ∙ lt-ltb _ _ (c .if1 .taken)))
     (λ c. search needs) (λ c. search needs)
     (λ c. lowest-next _ _ _ (search needs) (search needs)
-        (shares-earlier _ _ _ _ _ (search needs) (c .before .before .read .ensures) (c .before .first-sharing .ensures) ∙ le-ltb _ _ (c .if1 .left)))
+    (shares-earlier _ _ _ _ _ (search needs) (c .before .before .read .ensures) (c .before .first-sharing .ensures) ∙ le-ltb _ _ (c .if1 .left)))
     (λ c. lowest-over _ _ _ (c .before .loop .inv) (c .loop-test .left)))

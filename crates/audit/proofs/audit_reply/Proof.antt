@@ -6,7 +6,7 @@ use Rattle.audit.specs.Audit.{lengthsOk, auditBoxes}
 use Rattle.audit.proofs.TwoLists.{boxes-length}
 use Rattle.audit.proofs.Tests.{chamber-small, none-inside}
 use Rattle.audit.proofs.Replying.{lengths, firstOutside, firstShared, reply-length, reply-chamber, reply-outside, reply-shared, reply-gap, reply-whole}
-use Rattle.audit.proofs.reply_of as it
+use Rattle.audit.proofs.audit_reply as it
 
 -- what is known past the checks 1 and 2
 ok1 : (c : it.Tie.Else1) → let a = c .before .before .before .before .args in lengthsOk (length (now (a .placed))) (length (now (a .free))) ≡ true
@@ -46,8 +46,8 @@ returns-5 c = let e4 = c .before .before .before in let e3 = e4 .before .before 
 returns-6 : it.Tie.Need-returns-6
 returns-6 c = let e4 = c .before .before .before in let e3 = e4 .before .before in let e = e3 .before .before .before .before in c .new6 .ensures ∙ reply-whole _ _ _ (ok1 (e .before .before)) (ok2 e) (inside e3) (apart e4) (sym (c .before .before .fills .ensures) ∙ not-false _ (c .before .if5 .left))
 
-pub reply-of-spec : {M : Type 1} → it.Statement.statement M
-reply-of-spec =
+pub audit-reply-spec : {M : Type 1} → it.Statement.statement M
+audit-reply-spec =
     it.Tie.close
     (it.Tie.spec (λ c κs. search needs) (λ c κs. search needs) returns (λ c κs. search needs) (λ c κs. search needs)
     returns-2 (λ c κs. search needs) (λ c κs. search needs) (λ c. search needs) (λ c κs. search needs)
