@@ -1,30 +1,22 @@
 -- What remains of a section beside a rectangle lies within the section.
 use Prim.Native.Nat.{ℕ, zero, suc, _+_, _≤_, _<_}
-use mathlib.Core.Path.{_≡_, refl, sym, ap, _∙_}
-use mathlib.Core.List.{List, [], _∷_}
-use mathlib.Core.Bool.{Bool, true, false}
+use mathlib.Core.Path.{_≡_, refl, ap}
+use mathlib.Core.Logic.{⊎-elim}
+use mathlib.Core.List.{List, []}
 use native.Mathlib.Omega.{arith}
-use native.Mathlib.Decide.{decLt}
-use borrow.Author.Tests.{lt-ltb, le-ltb}
 use lib.ListN.{length, getD}
 use Rattle.bin_section.specs.declared.rect_to_insert.RectToInsert.{RectToInsert}
 use Rattle.bin_section.specs.declared.section.BinSection.{BinSection}
 use Rattle.bin_section.specs.Section.{zeroSection}
 use Rattle.bin_section.specs.Sides.{Small}
 use Rattle.try_place.specs.declared.packed_location.PackedLocation.{PackedLocation}
-use Rattle.try_place.specs.declared.Placement.{Placement}
-use Rattle.try_place.specs.declared.Placement.the-variants.{
-  Placed,
-  PlacementWiderThanBinSection,
-  PlacementTallerThanBinSection,
-  PlacementDeeperThanBinSection,
-}
+use Rattle.try_place.specs.declared.Placement.the-variants.{Placed}
 use Rattle.try_place.specs.declared.Tried.{Tried}
 use Rattle.try_place.specs.Splits.{Fitting, sixSplits}
 use Rattle.try_place.specs.Choice.{SmallBoxes, chosen}
-use Rattle.try_place.specs.Try.{Reachable, placedOf, fitOf}
+use Rattle.try_place.specs.Try.{Reachable, placedOf, fitOf, Fits}
 use Rattle.try_place.proofs.Choosing.{chosen-below}
-use Rattle.try_place.proofs.Trying.{fit-wider, fit-taller, fit-deeper, fit-placed}
+use Rattle.try_place.proofs.Trying.{fit-or-not}
 
 -- b does not reach past s on any side
 pub record Within (s b : BinSection) : Type 0 where
@@ -50,7 +42,7 @@ row-within s r (suc (suc (suc (suc zero)))) f h = omega arith
 row-within s r (suc (suc (suc (suc (suc zero))))) f h = omega arith
 row-within s r (suc (suc (suc (suc (suc (suc k)))))) f h = absurd (omega arith)
 
-row-long : (s : BinSection) (r : RectToInsert) (k : ℕ) → k < 6 → length (getD (sixSplits s r) k []) ≡ 3
+pub row-long : (s : BinSection) (r : RectToInsert) (k : ℕ) → k < 6 → length (getD (sixSplits s r) k []) ≡ 3
 unfolding sixSplits
 row-long s r zero h = refl
 row-long s r (suc zero) h = refl
@@ -61,53 +53,21 @@ row-long s r (suc (suc (suc (suc (suc zero))))) h = refl
 row-long s r (suc (suc (suc (suc (suc (suc k)))))) h = absurd (omega arith)
 
 pub within-reachable : (s b : BinSection) → Reachable s → Within s b → Reachable b
-within-reachable s b p w = record { x-end = omega arith; y-end = omega arith; z-end = omega arith }
+within-reachable s b p w = omega arith
 
-pub within-small : (s b : BinSection) → Reachable s → Within s b → Small (b .whd)
-within-small s b p w = record { width-small = omega arith; height-small = omega arith; depth-small = omega arith }
+within-small : (s b : BinSection) → Reachable s → Within s b → Small (b .whd)
+within-small s b p w = omega arith
 
 module _ (s : BinSection) (r : RectToInsert) (l : PackedLocation) (p : Reachable s) (e : fitOf s r .answer ≡ Placed l) where
-  no-wider : s .whd .width < r .whd .width → ⊥
-  no-wider h =
-      let f : PlacementWiderThanBinSection ≡ Placed l = ap (λ (t : Tried). t .answer) (fit-wider s r h) ∙ e in
-      let z : _≡_ {A = ℕ} 0 1 = cc in
-      omega arith
-
-  width-fits : r .whd .width ≤ s .whd .width
-  width-fits = elim (decLt (s .whd .width) (r .whd .width)) [ yes h ↦ absurd (no-wider h) | no h ↦ omega arith ]
-
-  no-taller : s .whd .height < r .whd .height → ⊥
-  no-taller h =
-      let f : PlacementTallerThanBinSection ≡ Placed l = ap (λ (t : Tried). t .answer) (fit-taller s r width-fits h) ∙ e in
-      let z : _≡_ {A = ℕ} 0 1 = cc in
-      omega arith
-
-  height-fits : r .whd .height ≤ s .whd .height
-  height-fits = elim (decLt (s .whd .height) (r .whd .height)) [ yes h ↦ absurd (no-taller h) | no h ↦ omega arith ]
-
-  no-deeper : s .whd .depth < r .whd .depth → ⊥
-  no-deeper h =
-      let f : PlacementDeeperThanBinSection ≡ Placed l = ap (λ (t : Tried). t .answer) (fit-deeper s r width-fits height-fits h) ∙ e in
-      let z : _≡_ {A = ℕ} 0 1 = cc in
-      omega arith
-
-  depth-fits : r .whd .depth ≤ s .whd .depth
-  depth-fits = elim (decLt (s .whd .depth) (r .whd .depth)) [ yes h ↦ absurd (no-deeper h) | no h ↦ omega arith ]
+  placed-fits : Fits s r × (fitOf s r ≡ placedOf s r)
+  placed-fits = ⊎-elim (λ f. f) (λ n. let z : _≡_ {A = ℕ} 1 0 = rw e at (n .1 (λ m. 1) 0) in absurd (omega arith)) (fit-or-not s r ℕ)
 
   pub placed-fitting : Fitting s r
-  placed-fitting =
-      record {
-        x-end = p .x-end;
-        y-end = p .y-end;
-        z-end = p .z-end;
-        width-fits = width-fits;
-        height-fits = height-fits;
-        depth-fits = depth-fits;
-      }
+  placed-fitting = omega (arith, placed-fits .0)
 
   -- a try that is placed gives the chosen three
   pub placed-is : fitOf s r ≡ placedOf s r
-  placed-is = sym (fit-placed s r width-fits height-fits depth-fits)
+  placed-is = placed-fits .1
 
   pub placed-within : ThreeWithin s (fitOf s r .sections)
   placed-within =
@@ -117,9 +77,4 @@ module _ (s : BinSection) (r : RectToInsert) (l : PackedLocation) (p : Reachable
   placed-three = rw (ap (λ (t : Tried). t .sections) placed-is) (row-long s r (chosen (sixSplits s r)) (chosen-below (sixSplits s r)))
 
   pub placed-small : SmallBoxes (fitOf s r .sections)
-  placed-small =
-      record {
-        first = within-small s _ p (placed-within .first);
-        second = within-small s _ p (placed-within .second);
-        third = within-small s _ p (placed-within .third);
-      }
+  placed-small = let w = placed-within in omega arith

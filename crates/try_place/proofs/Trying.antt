@@ -1,11 +1,13 @@
 -- Laws of a try: which case each row of checks leads to, and what a section and a rectangle that pass them have.
-use Prim.Native.Nat.{ℕ, _≤_, _<_, _+_}
-use mathlib.Core.Path.{_≡_, refl, ap, _∙_}
+use Prim.Native.Nat.{ℕ, _≤_, _<_}
+use mathlib.Core.Path.{_≡_, refl, sym, ap, _∙_}
+use mathlib.Core.Logic.{_⊎_, inl, inr}
 use mathlib.Core.List.{[], _∷_}
-use mathlib.Core.Bool.{Bool, true, false, _&&_, not, cond}
+use mathlib.Core.Bool.{Bool, true, false, not, cond}
 use native.Mathlib.Omega.{arith}
+use native.Mathlib.Decide.{decLt}
 use borrow.Author.Tests.{lt-ltb, le-ltb, leb-true}
-use lib.Dec.{leb, ltb}
+use lib.Dec.{ltb}
 use Rattle.lists.proofs.Flags.{and-first, and-second}
 use Rattle.bin_section.specs.declared.rect_to_insert.RectToInsert.{RectToInsert}
 use Rattle.bin_section.specs.declared.section.BinSection.{BinSection}
@@ -17,39 +19,21 @@ use Rattle.try_place.specs.declared.Placement.the-variants.{
   PlacementDeeperThanBinSection,
 }
 use Rattle.replies.specs.Replies.{reply, once, inOrder}
-use Rattle.bin_section.specs.Sides.{sideOk, sidesOk}
+use Rattle.bin_section.specs.Sides.{sidesOk}
 use Rattle.try_place.specs.declared.Tried.{Tried}
 use Rattle.try_place.specs.Splits.{Fitting, sixSplits}
 use Rattle.try_place.specs.Choice.{SmallSplits}
-use Rattle.try_place.specs.Try.{spanOk, sectionOk, Reachable, refusedOf, placedOf, fitOf, tryOf, tryChecks, numberOf}
-
-span-end : (o s : ℕ) → spanOk o s ≡ true → o + s ≤ 65535
-unfolding spanOk
-span-end o s h = leb-true _ _ (and-second (sideOk s) (leb (o + s) 65535) h)
+use Rattle.try_place.specs.declared.packed_location.PackedLocation.{PackedLocation}
+use Rattle.try_place.specs.Try.{spanOk, sectionOk, Reachable, refusedOf, placedOf, fitOf, Fits, tryOf, tryChecks, numberOf, onPlaced}
 
 pub small-splits : (s : BinSection) (r : RectToInsert) → Fitting s r → SmallSplits (sixSplits s r)
 unfolding sixSplits
 small-splits s r h =
-    record {
-      at0 = omega arith;
-      at1 = omega arith;
-      at2 = omega arith;
-      at3 = omega arith;
-      at4 = omega arith;
-      at5 = omega arith;
-    }
+    record { at0 = omega arith; at1 = omega arith; at2 = omega arith; at3 = omega arith; at4 = omega arith; at5 = omega arith }
 
 pub reachable : (s : BinSection) → sectionOk s ≡ true → Reachable s
-reachable s a =
-    let ox = spanOk (s .x) (s .whd .width) in
-    let oy = spanOk (s .y) (s .whd .height) in
-    let oz = spanOk (s .z) (s .whd .depth) in
-    let yz = and-second ox (oy && oz) a in
-    record {
-      x-end = span-end _ _ (and-first ox (oy && oz) a);
-      y-end = span-end _ _ (and-first oy oz yz);
-      z-end = span-end _ _ (and-second oy oz yz);
-    }
+unfolding spanOk
+reachable s a = search (and-first, and-second, leb-true)
 
 module _ (s : BinSection) (r : RectToInsert) where
   -- the checks 3 and 4
@@ -84,6 +68,23 @@ module _ (s : BinSection) (r : RectToInsert) where
       pub fit-placed : r .whd .depth ≤ s .whd .depth → placedOf s r ≡ fitOf s r
       unfolding fitOf
       fit-placed d = rw (le-ltb _ _ w, le-ltb _ _ h, le-ltb _ _ d)
+
+  pub fit-is : Fits s r → fitOf s r ≡ placedOf s r
+  fit-is f = sym (fit-placed (f .width-fits) (f .height-fits) (f .depth-fits))
+
+  -- the section fits and takes the rectangle, or it does not and the answer is a refusal
+  pub fit-or-not : (A : Type 0) → (Fits s r × (fitOf s r ≡ placedOf s r)) ⊎ ((Fits s r → ⊥) × ((f : PackedLocation → A) (e : A) → onPlaced (fitOf s r .answer) f e ≡ e))
+  fit-or-not A =
+      elim (decLt (s .whd .width) (r .whd .width)) [
+        | yes w ↦ inr (λ f. omega arith, λ f e. rw (← fit-wider w))
+        | no w ↦ let w′ : r .whd .width ≤ s .whd .width = omega arith in elim (decLt (s .whd .height) (r .whd .height)) [
+          | yes h ↦ inr (λ f. omega arith, λ f e. rw (← fit-taller w′ h))
+          | no h ↦ let h′ : r .whd .height ≤ s .whd .height = omega arith in elim (decLt (s .whd .depth) (r .whd .depth)) [
+            | yes d ↦ inr (λ f. omega arith, λ f e. rw (← fit-deeper w′ h′ d))
+            | no d ↦ let f : Fits s r = omega arith in inl (f, fit-is f)
+          ]
+        ]
+      ]
 
 -- the numbers of the answers are those of the checks in their order
 by-number :

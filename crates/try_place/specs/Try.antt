@@ -50,6 +50,12 @@ fitOf s r =
     (cond (ltb (s .whd .height) (r .whd .height)) (refusedOf PlacementTallerThanBinSection)
     (cond (ltb (s .whd .depth) (r .whd .depth)) (refusedOf PlacementDeeperThanBinSection) (placedOf s r)))
 
+-- a section fits a rectangle that is not "wider, taller, deeper than the section"
+pub record Fits (s : BinSection) (r : RectToInsert) : Type 0 where
+  pub width-fits : r .whd .width ≤ s .whd .width
+  pub height-fits : r .whd .height ≤ s .whd .height
+  pub depth-fits : r .whd .depth ≤ s .whd .depth
+
 -- "Try: 3 (..), 4, 12, 13, 14."
 unfoldable pub tryOf : BinSection → RectToInsert → Tried
 tryOf s r =
