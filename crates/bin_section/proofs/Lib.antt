@@ -1,4 +1,5 @@
 pub mod Bounding
+pub mod Ranges
 pub mod Sharing
 pub mod Volume
 pub mod Words

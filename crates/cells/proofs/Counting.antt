@@ -5,6 +5,9 @@ use mathlib.Core.List.{List, [], _∷_}
 use Prim.Native.Nat.{ℕ, suc, _+_, _≤_, _<_}
 use native.Mathlib.Omega.{arith}
 use lib.ListN.{length}
+use Rattle.lists.specs.Sum.{sumTo}
+use Rattle.lists.proofs.Sums.{sum-first}
+use Rattle.lists.proofs.Totals.{total}
 use Rattle.bin_section.specs.declared.width_height_depth.WidthHeightDepth.{WidthHeightDepth}
 use Rattle.bin_section.specs.declared.section.BinSection.{BinSection}
 use Rattle.bin_section.specs.Sides.{volumeOf}
@@ -16,7 +19,7 @@ use Rattle.cells.proofs.Held.{held, held-some, apart-once, whole-held}
 module _ (whd : WidthHeightDepth) where
   -- counted cell by cell and box by box
   pub held-cells : (boxes : List BinSection) → AllInside whd boxes → cells whd (held boxes) ≡ volumes boxes
-  unfolding held volumes
+  unfolding total volumes
   held-cells [] p = cells-zero whd
   held-cells (b ∷ bs) p =
       cells-add whd (has b) (held bs)
@@ -45,10 +48,6 @@ module _ (whd : WidthHeightDepth) (boxes : List BinSection) where
     sum→whole e =
         whole-held whd boxes .1
         (record { inside = inside; once = cells-full whd (held boxes) (apart-once boxes apart) (held-cells whd boxes inside ∙ e) })
-
-    -- they fill the chamber exactly when their volumes sum to its volume
-    pub sum-exact : (volumes boxes ≡ volumeOf whd) ↔ Whole whd boxes
-    sum-exact = (sum→whole, whole→sum)
 
     -- and else a cell is in no box
     pub less→gap : volumes boxes < volumeOf whd → Gap whd boxes

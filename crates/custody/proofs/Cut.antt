@@ -16,7 +16,7 @@ use Rattle.bin_section.specs.Section.{section}
 use Rattle.cells.proofs.Grid.{has, has-cut-x, has-cut-y, has-cut-z, has-none}
 use Rattle.cells.proofs.Held.{held, held-append}
 use Rattle.try_place.specs.Splits.{sixSplits}
-use Rattle.packing_rules.specs.Promises.{Fits}
+use Rattle.try_place.specs.Try.{Fits}
 use Rattle.packing_rules.specs.Appended.{larger, keptOne, kept, appendedOf}
 
 -- a box cut in two along one axis, with the whole side named

@@ -23,7 +23,8 @@ use Rattle.target_bin.specs.Checks.{badShape, check1, check2Fresh}
 use Rattle.target_bin.specs.Outcome.{Outcome, outcome, refused}
 use Rattle.target_bin.specs.Fresh.{freshTable, freshStore, freshOf}
 use Rattle.replies.proofs.Ladders as ordering
-use Rattle.target_bin.proofs.Passing.{Lengths, lengths, SidesInRange, ShapesSound, shapes-sound, no-fault}
+use Rattle.bin_section.proofs.Ranges.{SidesInRange}
+use Rattle.target_bin.proofs.Passing.{Lengths, lengths, ShapesSound, shapes-sound, no-fault}
 use Rattle.target_bin.proofs.Tables.{getD-chambersOf}
 use Rattle.target_bin.proofs.Parts.{getD-freeOf}
 use Rattle.target_bin.proofs.Freshening.{wholeOf}

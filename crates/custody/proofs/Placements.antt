@@ -19,13 +19,13 @@ use Rattle.try_place.specs.declared.packed_location.PackedLocation.{PackedLocat
 use Rattle.try_place.specs.declared.Tried.{Tried}
 use Rattle.try_place.specs.Splits.{sixSplits}
 use Rattle.try_place.specs.Choice.{chosen}
-use Rattle.try_place.specs.Try.{fitOf}
+use Rattle.try_place.specs.Try.{fitOf, Fits}
 use Rattle.packing_rules.specs.Appended.{appendedOf}
 use Rattle.try_place.proofs.Choosing.{chosen-below}
 use Rattle.packing_rules.specs.Rules.{placed, placeOne}
-use Rattle.packing_rules.specs.Promises.{Fits}
 use Rattle.packing_rules.proofs.Left.{one-left, inside-reachable, inside-passes}
-use Rattle.packing_rules.proofs.Placings.{fit-is, PlacedAt, placed-at, Placings, no-more, then}
+use Rattle.packing_rules.proofs.Placings.{PlacedAt, placed-at, Placings, no-more, then}
+use Rattle.try_place.proofs.Trying.{fit-is}
 use Rattle.custody.proofs.Cut.{placedBox, row-cut, held-appended}
 
 -- a rectangle has no zero side

@@ -1,35 +1,25 @@
 -- Laws of checks 4 and 5: the test of a turn, and what a table that passes check 4 has.
-use Prim.Native.Nat.{ℕ, _≤_}
+use Prim.Native.Nat.{ℕ, _≤_, _<_}
 use mathlib.Core.Path.{_≡_, sym, ap, _∙_}
 use mathlib.Core.List.{List}
-use mathlib.Core.Bool.{Bool, true, false, not, _&&_}
-use borrow.Author.Tests.{not-false, leb-true, eq-eqb, ne-eqb}
-use lib.Dec.{ltb, leb, eqb}
-use Rattle.lists.proofs.Flags.{and-first, and-second}
+use mathlib.Core.Bool.{Bool, true, false, not}
+use borrow.Author.Tests.{not-false, eq-eqb, ne-eqb}
+use lib.Dec.{eqb}
 use Rattle.lists.proofs.Lowests.{None}
-use Rattle.bin_section.specs.declared.width_height_depth.WidthHeightDepth.{WidthHeightDepth}
-use Rattle.bin_section.specs.Sides.{sideOk, sidesOk, Small}
+use Rattle.bin_section.specs.Sides.{sidesOk}
+use Rattle.bin_section.proofs.Ranges.{SidesInRange, sides→range, range→small}
 use Rattle.grouped_rects_to_place.specs.declared.rect_to_place.RectToPlace.{RectToPlace}
 use Rattle.grouped_rects_to_place.specs.Rect.{rectAt, HasRects, GoodRects}
 use Rattle.grouped_rects_to_place.specs.Checks.{badRect}
 
-side-small : (side : ℕ) → sideOk side ≡ true → side ≤ 65535
-unfolding sideOk
-side-small side e = leb-true side 65535 (and-second (ltb 0 side) (leb side 65535) e)
-
-sides-small : (s : WidthHeightDepth) → sidesOk s ≡ true → Small s
-sides-small s e =
-    let rest = and-second (sideOk (s .width)) (sideOk (s .height) && sideOk (s .depth)) e in
-    record {
-      width-small = side-small (s .width) (and-first (sideOk (s .width)) (sideOk (s .height) && sideOk (s .depth)) e);
-      height-small = side-small (s .height) (and-first (sideOk (s .height)) (sideOk (s .depth)) rest);
-      depth-small = side-small (s .depth) (and-second (sideOk (s .height)) (sideOk (s .depth)) rest);
-    }
+-- what check 4 leaves of each rectangle
+pub rects-range : (r : ℕ → RectToPlace) (n : ℕ) → None n (badRect r) → (i : ℕ) → i < n → SidesInRange (r i .whd)
+unfolding badRect
+rects-range r n ok i h = sides→range (r i .whd) (not-false (sidesOk (r i .whd)) (ok .at i h))
 
 pub good-rects : (w : List ℕ) (n : ℕ) → n ≤ 63 → HasRects w n → None n (badRect (rectAt w)) → GoodRects w n
-unfolding badRect
 good-rects w n few long ok =
-    record { few = few; long = long; small = λ i h. sides-small (rectAt w i .whd) (not-false (sidesOk (rectAt w i .whd)) (ok .at i h)) }
+    record { few = few; long = long; small = λ i h. range→small _ (rects-range (rectAt w) n ok i h) }
 
 -- the test of a turn is the check at i, where q is the record that was read
 pub bad-turn :

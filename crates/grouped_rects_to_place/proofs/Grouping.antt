@@ -1,9 +1,9 @@
 -- Laws that the code of the groups stands on: one turn of each loop.
 use Prim.Native.Nat.{ℕ, _+_, _≤_, _<_}
 use mathlib.Core.Path.{_≡_, refl, sym, ap, ap₂, _∙_, subst}
-use mathlib.Core.Logic.{_⊎_, inl, inr}
+use mathlib.Core.Logic.{_⊎_, inl, inr, ⊎-elim}
 use mathlib.Core.List.{List, [], _∷_, _++_}
-use mathlib.Core.Bool.{Bool, true, false}
+use mathlib.Core.Bool.{Bool, true, false, cond}
 use native.Mathlib.Nat.{eq-or-lt-of-le, le-of-suc-le-suc}
 use native.Mathlib.Numerals.{add-one}
 use native.Mathlib.Omega.{arith}
@@ -12,9 +12,9 @@ use lib.ListN.{length, getD, take, set, length-append}
 use lib.Seq.{take-suc-set, getD-take, getD-set-same, getD-set-other}
 use Rattle.lists.specs.Pick.{picked}
 use Rattle.lists.specs.Sort.{insertBy, sortBy, Each}
-use Rattle.lists.proofs.Flags.{true-false, cond-yes, cond-no}
+use Rattle.lists.proofs.Flags.{true-false}
 use Rattle.lists.proofs.Inserts.{insert-same}
-use Rattle.lists.proofs.Picks.{pick-each, pick-yes, pick-no, length-pick}
+use Rattle.lists.proofs.Picks.{pick-each, pick-more, pick-yes, pick-no, length-pick}
 use Rattle.lists.proofs.Sorts.{each-map, each-at, sort-each, sort-more, length-sort}
 use Rattle.grouped_rects_to_place.specs.declared.rect_to_place.RectToPlace.{RectToPlace}
 use Rattle.grouped_rects_to_place.specs.Groups.{
@@ -45,18 +45,10 @@ each-entry P out list count e l ps k h =
     subst P (ap (λ (xs : List ℕ). getD xs k 0) (sym e) ∙ getD-take count out k 0 h) (each-at ps k 0 (omega arith))
 
 pub pushed-no : (j count : ℕ) (out : List ℕ) (wanted : Bool) → wanted ≡ false → Pushed wanted j count out out count
-pushed-no j count out wanted e =
-    record {
-      front = sym (cond-no (take count out ++ (j ∷ [])) (take count out) wanted e);
-      long = sym (cond-no (count + 1) count wanted e);
-    }
+pushed-no j count out wanted e = rw e (record { front = refl; long = refl })
 
 pub pushed-yes : (j count : ℕ) (out : List ℕ) (wanted : Bool) → wanted ≡ true → count < length out → Pushed wanted j count out (set out count j) (count + 1)
-pushed-yes j count out wanted e h =
-    record {
-      front = rw add-one (take-suc-set out count j h) ∙ sym (cond-yes (take count out ++ (j ∷ [])) (take count out) wanted e);
-      long = sym (cond-yes (count + 1) count wanted e);
-    }
+pushed-yes j count out wanted e h = rw e (record { front = rw add-one (take-suc-set out count j h); long = refl })
 
 -- the numbers below j that a test picks stand at the front of out
 pub record Picking (f : ℕ → Bool) (n j : ℕ) (out : List ℕ) (count : ℕ) : Type 0 where
@@ -77,44 +69,31 @@ module _ (f : ℕ → Bool) (n : ℕ) where
       → wanted ≡ f j
       → Pushed wanted j count out out′ count′
       → Picking f n (j + 1) out′ count′
-  picking-more j count count′ out out′ wanted p h w s = go (f j) refl
-    where
-      go : (t : Bool) → f j ≡ t → Picking f n (j + 1) out′ count′
-      go true e =
-          let long′ : count′ ≡ count + 1 = s .long ∙ cond-yes (count + 1) count wanted (w ∙ e) in
-          record {
-            within = omega arith;
-            front =
-                s .front
-                ∙ cond-yes (take count out ++ (j ∷ [])) (take count out) wanted (w ∙ e)
-                ∙ ap (λ (l : List ℕ). l ++ (j ∷ [])) (p .front)
-                ∙ sym (pick-yes j f e);
-            long = long′ ∙ ap (λ (m : ℕ). m + 1) (p .long) ∙ sym (length-append (picked j f) (j ∷ [])) ∙ ap length (sym (pick-yes j f e));
-            few = omega (arith, p .few);
-          }
-      go false e =
-          let long′ : count′ ≡ count = s .long ∙ cond-no (count + 1) count wanted (w ∙ e) in
-          record {
-            within = omega arith;
-            front =
-                s .front
-                ∙ cond-no (take count out ++ (j ∷ [])) (take count out) wanted (w ∙ e)
-                ∙ p .front
-                ∙ sym (pick-no j f e);
-            long = long′ ∙ p .long ∙ ap length (sym (pick-no j f e));
-            few = omega (arith, p .few);
-          }
+  picking-more j count count′ out out′ wanted p h w s =
+      let long′ : count′ ≡ length (picked (j + 1) f) =
+      s .long
+      ∙ rw (w, pick-more j f)
+      (elim (f j) as (λ t. cond t (count + 1) count ≡ length (cond t (picked j f ++ (j ∷ [])) (picked j f))) [
+        | true ↦ omega (arith, length-append (picked j f) (j ∷ []), p .long)
+        | false ↦ p .long
+      ]) in
+      record {
+        within = omega arith;
+        front = rw (pick-more j f, ← w, ← (p .front)) (s .front);
+        long = long′;
+        few = omega (arith, length-pick (j + 1) f);
+      }
 
   pub picking-all : (j count : ℕ) (out : List ℕ) → Picking f n j out count → n ≤ j → Listed n (picked n f) out count
   picking-all j count out p h =
       let e : j ≡ n = omega arith in
-      let front′ : take count out ≡ picked n f = p .front ∙ ap (λ (m : ℕ). picked m f) e in
-      let long′ : count ≡ length (picked n f) = p .long ∙ ap (λ (m : ℕ). length (picked m f)) e in
+      let front′ : take count out ≡ picked n f = rw e at (p .front) in
+      let long′ : count ≡ length (picked n f) = rw e at (p .long) in
       record {
         front = front′;
         long = long′;
         few = omega arith;
-        below = λ k b. each-entry (λ i. i < n) out (picked n f) count front′ long′ (each-map (λ i q. q .0) (pick-each n f)) k b;
+        below = each-entry (λ i. i < n) out (picked n f) count front′ long′ (each-map (λ i q. q .0) (pick-each n f));
       }
 
 -- ---- the sort of the groups
@@ -150,16 +129,13 @@ module _ (r : ℕ → RectToPlace) (n : ℕ) where
     -- the rectangle at i is no first one
     pub sorted-same : leadOf r i < i → SortedTo r n (i + 1) sums order count
     sorted-same h =
-        let e = pick-no i (isLead r) (lead-no i h) in
         record {
-          front = s .front ∙ ap (sortBy (earlier n r)) (sym e);
-          long = s .long ∙ ap length (sym e);
-          summed = λ k b l. at k l (eq-or-lt-of-le (le-of-suc-le-suc (rw add-one at b)));
+          front = rw (pick-no i (isLead r) (lead-no i h)) (s .front);
+          long = rw (pick-no i (isLead r) (lead-no i h)) (s .long);
+          summed = λ k b l.
+              ⊎-elim (λ e. absurd (true-false (sym l ∙ ap (isLead r) e ∙ lead-no i h))) (λ b. s .summed k b l)
+              (eq-or-lt-of-le (le-of-suc-le-suc (rw add-one at b)));
         }
-      where
-        at : (k : ℕ) → isLead r k ≡ true → (k ≡ i) ⊎ (k < i) → getD sums k 0 ≡ groupVolume n r k
-        at k l (inl e) = absurd (true-false (sym l ∙ ap (isLead r) e ∙ lead-no i h))
-        at k l (inr b) = s .summed k b l
 
     -- the rectangle at i is the first of its group, which is summed up and put into its place
     module _ (sums′ : List ℕ) (e : sums′ ≡ set sums i (groupVolume n r i)) (room : i < length sums) where
@@ -201,8 +177,8 @@ module _ (r : ℕ → RectToPlace) (n : ℕ) where
   sorted-all i sums order count s a b =
       let e : i ≡ n = omega arith in
       record {
-        front = s .front ∙ ap (λ (m : ℕ). sortBy (earlier n r) (picked m (isLead r))) e;
-        long = long-sort i sums order count s ∙ ap (λ (m : ℕ). length (sortBy (earlier n r) (picked m (isLead r)))) e;
+        front = rw e at (s .front);
+        long = rw e at (long-sort i sums order count s);
         few = omega (arith, sorted-few i sums order count s);
         below = λ k h. omega (arith, sorted-below i sums order count s k h);
       }

@@ -7,6 +7,10 @@ use native.Mathlib.Omega.{arith}
 pub true-false : true ≡ false → ⊥
 true-false e = let z : _≡_ {A = ℕ} 0 1 = cc in omega arith
 
+pub false-of : (a : Bool) → (a ≡ true → ⊥) → a ≡ false
+false-of true h = absurd (h refl)
+false-of false h = refl
+
 pub and-both : (a b : Bool) → a ≡ true → b ≡ true → (a && b) ≡ true
 and-both true b p q = q
 and-both false b p q = p

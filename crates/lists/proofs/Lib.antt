@@ -7,3 +7,5 @@ pub mod Picks
 pub mod Sorts
 pub mod Sums
 pub mod Tabs
+pub mod Ties
+pub mod Totals

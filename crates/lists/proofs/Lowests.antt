@@ -1,6 +1,6 @@
 -- Laws of `lowest` and `anyBelow`: the start, a turn and the end of a loop that counts up, and what they mean.
 use mathlib.Core.Path.{_≡_, refl, sym, ap, ap₂, _∙_}
-use mathlib.Core.Logic.{_⊎_, inl, inr}
+use mathlib.Core.Logic.{_⊎_, ⊎-elim}
 use mathlib.Core.Bool.{Bool, true, false, _||_, cond}
 use Prim.Native.Nat.{ℕ, zero, suc, _+_, _-_, _≤_, _<_, min}
 use native.Mathlib.Nat.{eq-or-lt-of-le, le-of-suc-le-suc, not-suc-le-zero, le-step, lt-suc-self, add-zero, add-suc}
@@ -20,11 +20,7 @@ pub none-zero : (f : ℕ → Bool) → None 0 f
 none-zero f = record { at = λ i h. absurd (not-suc-le-zero h) }
 
 pub none-more : (n : ℕ) (f : ℕ → Bool) → None n f → f n ≡ false → None (n + 1) f
-none-more n f p e = record { at = λ i h. go i (eq-or-lt-of-le (le-of-suc-le-suc (rw add-one at h))) }
-  where
-    go : (i : ℕ) → (i ≡ n) ⊎ (i < n) → f i ≡ false
-    go i (inl q) = ap f q ∙ e
-    go i (inr l) = p .at i l
+none-more n f p e = record { at = λ i h. ⊎-elim (λ q. ap f q ∙ e) (p .at i) (eq-or-lt-of-le (le-of-suc-le-suc (rw add-one at h))) }
 
 pub none-less : (m n : ℕ) (f : ℕ → Bool) → None n f → m ≤ n → None m f
 none-less m n f p h = record { at = λ i l. p .at i (omega arith) }
@@ -34,11 +30,9 @@ none-less m n f p h = record { at = λ i l. p .at i (omega arith) }
 pub lowest-most : (n : ℕ) (f : ℕ → Bool) → lowest n f ≤ n
 unfolding lowest
 lowest-most zero f = omega arith
-lowest-most (suc n) f = go (f 0) (lowest-most n (λ k. f (suc k)))
-  where
-    go : (t : Bool) → lowest n (λ k. f (suc k)) ≤ n → cond t 0 (suc (lowest n (λ k. f (suc k)))) ≤ suc n
-    go true l = omega arith
-    go false l = omega arith
+lowest-most (suc n) f =
+    let l = lowest-most n (λ k. f (suc k)) in
+    elim (f 0) as (λ t. cond t 0 (suc (lowest n (λ k. f (suc k)))) ≤ suc n) [ true ↦ omega arith | false ↦ omega arith ]
 
 pub lowest-none : (n : ℕ) (f : ℕ → Bool) → None n f → lowest n f ≡ n
 unfolding lowest
@@ -71,24 +65,23 @@ lowest-end n i f p h = lowest-none n f (none-less n i f p h)
 pub none-below-lowest : (n : ℕ) (f : ℕ → Bool) → None (lowest n f) f
 unfolding lowest
 none-below-lowest zero f = none-zero f
-none-below-lowest (suc n) f = go (none-below-lowest n (λ k. f (suc k))) (f 0) refl
-  where
-    at : None (lowest n (λ k. f (suc k))) (λ k. f (suc k)) → (i : ℕ) → f 0 ≡ false → i < suc (lowest n (λ k. f (suc k))) → f i ≡ false
-    at rest zero z h = z
-    at rest (suc i) z h = rest .at i (le-of-suc-le-suc h)
-
-    go : None (lowest n (λ k. f (suc k))) (λ k. f (suc k)) → (t : Bool) → f 0 ≡ t → None (cond t 0 (suc (lowest n (λ k. f (suc k))))) f
-    go rest true e = none-zero f
-    go rest false e = record { at = λ i h. at rest i e h }
+none-below-lowest (suc n) f =
+    let rest = none-below-lowest n (λ k. f (suc k)) in
+    elim (f 0) as (λ t. f 0 ≡ t → None (cond t 0 (suc (lowest n (λ k. f (suc k))))) f) [
+      | true ↦ λ e. none-zero f
+      | false ↦ λ e. record { at = elim [ zero ↦ λ h. e | suc i ↦ λ h. rest .at i (le-of-suc-le-suc h) ] }
+    ]
+    refl
 
 pub lowest-fires : (n : ℕ) (f : ℕ → Bool) → lowest n f < n → f (lowest n f) ≡ true
 unfolding lowest
 lowest-fires zero f h = absurd (not-suc-le-zero h)
-lowest-fires (suc n) f h = go (lowest-fires n (λ k. f (suc k))) (f 0) refl h
-  where
-    go : (lowest n (λ k. f (suc k)) < n → f (suc (lowest n (λ k. f (suc k)))) ≡ true) → (t : Bool) → f 0 ≡ t → cond t 0 (suc (lowest n (λ k. f (suc k)))) < suc n → f (cond t 0 (suc (lowest n (λ k. f (suc k))))) ≡ true
-    go rest true e l = e
-    go rest false e l = rest (le-of-suc-le-suc l)
+lowest-fires (suc n) f h =
+    elim (f 0) as (λ t. f 0 ≡ t → cond t 0 (suc (lowest n (λ k. f (suc k)))) < suc n → f (cond t 0 (suc (lowest n (λ k. f (suc k))))) ≡ true) [
+      | true ↦ λ e l. e
+      | false ↦ λ e l. lowest-fires n (λ k. f (suc k)) (le-of-suc-le-suc l)
+    ]
+    refl h
 
 pub none-of-lowest : (n : ℕ) (f : ℕ → Bool) → n ≤ lowest n f → None n f
 none-of-lowest n f h = none-less n (lowest n f) f (none-below-lowest n f) h
@@ -177,10 +170,6 @@ module _ (m n all : ℕ) (whole : all ≡ m + n) (f g t : ℕ → Bool)
 
 -- ---- whether any fires
 
-pub any-more : (n : ℕ) (f : ℕ → Bool) → anyBelow (n + 1) f ≡ (anyBelow n f || f n)
-unfolding anyBelow
-any-more n f = ap (λ (m : ℕ). anyBelow m f) (add-one n)
-
 pub any-none : (n : ℕ) (f : ℕ → Bool) → anyBelow n f ≡ false → None n f
 unfolding anyBelow
 any-none zero f e = none-zero f
@@ -196,23 +185,20 @@ none-any (suc n) f p =
 pub any-some : (n : ℕ) (f : ℕ → Bool) → anyBelow n f ≡ true → (i : ℕ) × (i < n) × (f i ≡ true)
 unfolding anyBelow
 any-some zero f e = absurd (true-false (sym e))
-any-some (suc n) f e = go (any-some n f) (anyBelow n f) refl e
-  where
-    go :
-        (anyBelow n f ≡ true → (i : ℕ) × (i < n) × (f i ≡ true))
-        → (b : Bool)
-        → anyBelow n f ≡ b
-        → (b || f n) ≡ true
-        → (i : ℕ) × (i < suc n) × (f i ≡ true)
-    go rest true p e = let r = rest p in (r .0, le-step (r .1), r .2)
-    go rest false p e = (n, lt-suc-self n, e)
+any-some (suc n) f e =
+    elim (anyBelow n f) as (λ b. anyBelow n f ≡ b → (b || f n) ≡ true → (i : ℕ) × (i < suc n) × (f i ≡ true)) [
+      | true ↦ λ p q. let r = any-some n f p in (r .0, le-step (r .1), r .2)
+      | false ↦ λ p q. (n, lt-suc-self n, q)
+    ]
+    refl e
 
 pub any-here : (n i : ℕ) (f : ℕ → Bool) → i < n → f i ≡ true → anyBelow n f ≡ true
-any-here n i f h e = go (anyBelow n f) refl
-  where
-    go : (b : Bool) → anyBelow n f ≡ b → b ≡ true
-    go true p = refl
-    go false p = absurd (true-false (sym e ∙ any-none n f p .at i h))
+any-here n i f h e =
+    elim (anyBelow n f) as (λ b. anyBelow n f ≡ b → b ≡ true) [
+      | true ↦ λ p. refl
+      | false ↦ λ p. absurd (true-false (sym e ∙ any-none n f p .at i h))
+    ]
+    refl
 
 -- two tests that agree below n
 pub any-same : (n : ℕ) (f g : ℕ → Bool) → ((i : ℕ) → i < n → f i ≡ g i) → anyBelow n f ≡ anyBelow n g

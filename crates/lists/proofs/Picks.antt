@@ -1,16 +1,17 @@
 -- Laws of `picked`: a turn of a loop that counts up, and what is picked.
 use Prim.Native.Nat.{ℕ, zero, suc, _+_, _≤_, _<_}
-use mathlib.Core.Path.{_≡_, refl, sym, ap, _∙_}
+use mathlib.Core.Path.{_≡_, refl, ap, _∙_}
 use mathlib.Core.Logic.{_⊎_, inl, inr}
-use mathlib.Core.List.{List, [], _∷_, _++_, List·Memᴰ, List·Memᴰ·head, Memᴰ·append-left, Memᴰ·append-right}
+use mathlib.Core.List.{List, [], _∷_, _++_}
 use mathlib.Core.Bool.{Bool, true, false, cond}
-use native.Mathlib.Nat.{le-step, lt-suc-self, not-suc-le-zero, eq-or-lt-of-le, le-of-suc-le-suc}
+use native.Mathlib.Nat.{le-step, lt-suc-self, eq-or-lt-of-le, le-of-suc-le-suc}
 use native.Mathlib.Numerals.{add-one}
 use native.Mathlib.Omega.{arith}
 use lib.ListN.{length, length-append}
 use Rattle.lists.specs.Pick.{picked}
 use Rattle.lists.specs.Sort.{Each, none, also, EachTwo, no-two, also-two}
-use Rattle.lists.proofs.Flags.{true-false, cond-yes, cond-no}
+use Rattle.lists.proofs.Flags.{cond-yes, cond-no}
+use Rattle.lists.proofs.Lowests.{None}
 use Rattle.lists.proofs.Sorts.{each-map, each-append}
 
 module _ (n : ℕ) (f : ℕ → Bool) where
@@ -28,24 +29,22 @@ module _ (n : ℕ) (f : ℕ → Bool) where
 pub pick-each : (n : ℕ) (f : ℕ → Bool) → Each (λ i. (i < n) × (f i ≡ true)) (picked n f)
 unfolding picked
 pick-each zero f = none
-pick-each (suc n) f = go (f n) refl (each-map (λ i p. (le-step (p .0), p .1)) (pick-each n f))
-  where
-    go :
-        (t : Bool)
-        → f n ≡ t
-        → Each (λ i. (i < suc n) × (f i ≡ true)) (picked n f)
-        → Each (λ i. (i < suc n) × (f i ≡ true)) (cond t (picked n f ++ (n ∷ [])) (picked n f))
-    go true e ps = each-append ps (also (lt-suc-self n, e) none)
-    go false e ps = ps
+pick-each (suc n) f =
+    let ps : Each (λ i. (i < suc n) × (f i ≡ true)) (picked n f) = each-map (λ i p. (le-step (p .0), p .1)) (pick-each n f) in
+    elim (f n) as (λ t. f n ≡ t → Each (λ i. (i < suc n) × (f i ≡ true)) (cond t (picked n f ++ (n ∷ [])) (picked n f))) [
+      | true ↦ λ e. each-append ps (also (lt-suc-self n, e) none)
+      | false ↦ λ e. ps
+    ]
+    refl
 
 pub length-pick : (n : ℕ) (f : ℕ → Bool) → length (picked n f) ≤ n
 unfolding picked
 length-pick zero f = omega arith
-length-pick (suc n) f = go (f n) (length-pick n f)
-  where
-    go : (t : Bool) → length (picked n f) ≤ n → length (cond t (picked n f ++ (n ∷ [])) (picked n f)) ≤ suc n
-    go true h = simp length-append (omega arith)
-    go false h = omega arith
+length-pick (suc n) f =
+    elim (f n) as (λ t. length (cond t (picked n f ++ (n ∷ [])) (picked n f)) ≤ suc n) [
+      | true ↦ simp length-append (omega (arith, length-pick n f))
+      | false ↦ omega (arith, length-pick n f)
+    ]
 
 -- an element put behind all others
 each-two-last :
@@ -60,25 +59,28 @@ each-two-last x (also r rs) (also-two s ss) = also-two (each-append s (also r no
 pub pick-rising : (n : ℕ) (f : ℕ → Bool) → EachTwo (λ i j. i < j) (picked n f)
 unfolding picked
 pick-rising zero f = no-two
-pick-rising (suc n) f = go (f n) (pick-rising n f)
-  where
-    go : (t : Bool) → EachTwo (λ i j. i < j) (picked n f) → EachTwo (λ i j. i < j) (cond t (picked n f ++ (n ∷ [])) (picked n f))
-    go true ps = each-two-last n (each-map (λ i p. p .0) (pick-each n f)) ps
-    go false ps = ps
+pick-rising (suc n) f =
+    elim (f n) as (λ t. EachTwo (λ i j. i < j) (cond t (picked n f ++ (n ∷ [])) (picked n f))) [
+      | true ↦ each-two-last n (each-map (λ i p. p .0) (pick-each n f)) (pick-rising n f)
+      | false ↦ pick-rising n f
+    ]
 
--- and each that fires is there
-pub pick-in : (n : ℕ) (f : ℕ → Bool) (i : ℕ) → i < n → f i ≡ true → List·Memᴰ i (picked n f)
+-- the first number at which a test fires is the first that is picked
+pick-none : (n : ℕ) (f : ℕ → Bool) → None n f → picked n f ≡ []
 unfolding picked
-pick-in zero f i h e = absurd (not-suc-le-zero h)
-pick-in (suc n) f i h e = go (pick-in n f i) (f n) refl (eq-or-lt-of-le (le-of-suc-le-suc h))
+pick-none zero f p = refl
+pick-none (suc n) f p = rw (p .at n (lt-suc-self n)) (pick-none n f (record { at = λ j l. p .at j (le-step l) }))
+
+pub pick-first : (n i : ℕ) (f : ℕ → Bool) → None i f → i < n → f i ≡ true → (rest : List ℕ) × (picked n f ≡ i ∷ rest)
+unfolding picked
+pick-first zero i f p h e = absurd (omega arith)
+pick-first (suc n) i f p h e = at (eq-or-lt-of-le (le-of-suc-le-suc h)) (pick-first n i f p)
   where
-    go :
-        (i < n → f i ≡ true → List·Memᴰ i (picked n f))
-        → (t : Bool)
-        → f n ≡ t
-        → (i ≡ n) ⊎ (i < n)
-        → List·Memᴰ i (cond t (picked n f ++ (n ∷ [])) (picked n f))
-    go rest true p (inl q) = Memᴰ·append-right (picked n f) (List·Memᴰ·head q)
-    go rest true p (inr l) = Memᴰ·append-left (n ∷ []) (rest l e)
-    go rest false p (inl q) = absurd (true-false (sym e ∙ ap f q ∙ p))
-    go rest false p (inr l) = rest l e
+    at : (i ≡ n) ⊎ (i < n) → (i < n → f i ≡ true → (rest : List ℕ) × (picked n f ≡ i ∷ rest)) → (rest : List ℕ) × (cond (f n) (picked n f ++ (n ∷ [])) (picked n f) ≡ i ∷ rest)
+    at (inl q) before = ([], rw (← q, e, pick-none i f p))
+    at (inr l) before =
+        let r = before l e in
+        elim (f n) as (λ t. (rest : List ℕ) × (cond t (picked n f ++ (n ∷ [])) (picked n f) ≡ i ∷ rest)) [
+          | true ↦ (r .0 ++ (n ∷ []), rw (r .1))
+          | false ↦ r
+        ]

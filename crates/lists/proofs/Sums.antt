@@ -1,7 +1,7 @@
 -- Laws of `sumTo`.
 -- Assumes nothing.
 use mathlib.Core.Path.{_≡_, refl, sym, ap, ap₂, _∙_}
-use mathlib.Core.Logic.{_⊎_, inl, inr}
+use mathlib.Core.Logic.{_⊎_, inl, inr, ⊎-elim}
 use Prim.Native.Nat.{ℕ, zero, suc, _+_, _*_, _≤_, _<_}
 use native.Mathlib.Nat.{eq-zero-or-pos, eq-or-lt-of-le, suc-mul, zero-mul, mul-zero, mul-add, add-mul, not-suc-le-zero, le-of-suc-le-suc, lt-suc-self, le-step}
 use native.Mathlib.Decide.{decLt}
@@ -48,42 +48,48 @@ sum-most (suc n) c f b = omega (arith, sum-most n c f (λ i h. b i (le-step h)),
 pub sum-full : (n c : ℕ) (f : ℕ → ℕ) → ((i : ℕ) → i < n → f i ≤ c) → sumTo n f ≡ n * c → (i : ℕ) → i < n → f i ≡ c
 unfolding sumTo
 sum-full zero c f b e i h = absurd (not-suc-le-zero h)
-sum-full (suc n) c f b e i h = go (sum-full n c f (λ j g. b j (le-step g)) (omega (arith, most, b n (lt-suc-self n), suc-mul n c))) (eq-or-lt-of-le (le-of-suc-le-suc h))
-  where
-    most : sumTo n f ≤ n * c
-    most = sum-most n c f (λ j g. b j (le-step g))
-
-    go : ((j : ℕ) → j < n → f j ≡ c) → (i ≡ n) ⊎ (i < n) → f i ≡ c
-    go rest (inl p) = ap f p ∙ omega (arith, most, b n (lt-suc-self n), suc-mul n c)
-    go rest (inr l) = rest i l
+sum-full (suc n) c f b e i h =
+    let most : sumTo n f ≤ n * c = sum-most n c f (λ j g. b j (le-step g)) in
+    ⊎-elim (λ p. rw p (omega (arith, b n (lt-suc-self n), suc-mul n c)))
+    (sum-full n c f (λ j g. b j (le-step g)) (omega (arith, b n (lt-suc-self n), suc-mul n c)) i)
+    (eq-or-lt-of-le (le-of-suc-le-suc h))
 
 pub sum-less : (n c : ℕ) (f : ℕ → ℕ) → sumTo n f < n * c → (i : ℕ) × (i < n) × (f i < c)
 unfolding sumTo
 sum-less zero c f l = absurd (omega (arith, zero-mul c))
-sum-less (suc n) c f l = go (sum-less n c f) (decLt (f n) c)
-  where
-    go : (sumTo n f < n * c → (i : ℕ) × (i < n) × (f i < c)) → Dec (f n < c) → (i : ℕ) × (i < suc n) × (f i < c)
-    go rest (yes p) = (n, lt-suc-self n, p)
-    go rest (no p) = let r = rest (omega (arith, suc-mul n c)) in (r .0, le-step (r .1), r .2)
+sum-less (suc n) c f l =
+    elim (decLt (f n) c) [
+      | yes p ↦ (n, lt-suc-self n, p)
+      | no p ↦ let r = sum-less n c f (omega (arith, suc-mul n c)) in (r .0, le-step (r .1), r .2)
+    ]
 
 -- a sum that is not 0 has a part that is not 0; no part is above the sum
 pub sum-some : (n : ℕ) (f : ℕ → ℕ) → 0 < sumTo n f → (i : ℕ) × (i < n) × (0 < f i)
 unfolding sumTo
 sum-some zero f l = absurd (omega arith)
-sum-some (suc n) f l = go (sum-some n f) (eq-zero-or-pos (f n))
-  where
-    go : (0 < sumTo n f → (i : ℕ) × (i < n) × (0 < f i)) → (f n ≡ 0) ⊎ (0 < f n) → (i : ℕ) × (i < suc n) × (0 < f i)
-    go rest (inl e) = let r = rest (omega arith) in (r .0, le-step (r .1), r .2)
-    go rest (inr p) = (n, lt-suc-self n, p)
+sum-some (suc n) f l =
+    ⊎-elim (λ e. let r = sum-some n f (omega arith) in (r .0, le-step (r .1), r .2)) (λ p. (n, lt-suc-self n, p)) (eq-zero-or-pos (f n))
 
 pub sum-part : (n : ℕ) (f : ℕ → ℕ) (i : ℕ) → i < n → f i ≤ sumTo n f
 unfolding sumTo
 sum-part zero f i h = absurd (not-suc-le-zero h)
-sum-part (suc n) f i h = go (sum-part n f i) (eq-or-lt-of-le (le-of-suc-le-suc h))
-  where
-    go : (i < n → f i ≤ sumTo n f) → (i ≡ n) ⊎ (i < n) → f i ≤ sumTo n f + f n
-    go rest (inl p) = rw p (omega arith)
-    go rest (inr l) = omega (arith, rest l)
+sum-part (suc n) f i h = ⊎-elim (λ e. rw e (omega arith)) (λ l. omega (arith, sum-part n f i l)) (eq-or-lt-of-le (le-of-suc-le-suc h))
+
+pub sum-pair : (n : ℕ) (f : ℕ → ℕ) (i j : ℕ) → i < j → j < n → f i + f j ≤ sumTo n f
+unfolding sumTo
+sum-pair zero f i j l h = absurd (not-suc-le-zero h)
+sum-pair (suc n) f i j l h =
+    ⊎-elim (λ e. rw e (omega (arith, sum-part n f i (omega arith)))) (λ k. omega (arith, sum-pair n f i j l k)) (eq-or-lt-of-le (le-of-suc-le-suc h))
+
+-- one part raised
+pub sum-raised : (n : ℕ) (f g : ℕ → ℕ) (i d : ℕ) → i < n → g i ≡ f i + d → ((j : ℕ) → (j ≡ i → ⊥) → g j ≡ f j) → sumTo n g ≡ sumTo n f + d
+unfolding sumTo
+sum-raised zero f g i d h e o = absurd (not-suc-le-zero h)
+sum-raised (suc n) f g i d h e o =
+    ⊎-elim
+    (λ p. let top : g n ≡ f n + d = rw p at e in omega (arith, sum-ext n g f (λ j l. o j (λ q. omega arith))))
+    (λ l. omega (arith, sum-raised n f g i d l e o, o n (λ q. omega arith)))
+    (eq-or-lt-of-le (le-of-suc-le-suc h))
 
 -- parts of at most 1, no two of which are both 1
 pub sum-one : (n : ℕ) (f : ℕ → ℕ) → ((i : ℕ) → i < n → f i ≤ 1)

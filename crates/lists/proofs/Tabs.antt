@@ -1,14 +1,14 @@
 -- Laws of lists by their elements: tabulated, one element out, a part replaced.
-use Prim.Native.Nat.{ℕ, zero, suc, _+_, _*_, _-_, _/_, _%_, _≤_, _<_, zero-le}
-use mathlib.Core.Path.{_≡_, refl, sym, ap, ap₂, _∙_, subst}
-use mathlib.Core.List.{List, [], _∷_, _++_, map, append-assoc, append-nil}
+use Prim.Native.Nat.{ℕ, zero, suc, _+_, _-_, _≤_, _<_}
+use mathlib.Core.Path.{_≡_, refl, sym, ap, _∙_, subst}
+use mathlib.Core.Logic.{_⊎_, inl, inr}
+use mathlib.Core.List.{List, [], _∷_, _++_, map, append-assoc}
 use borrow.Rule.Slice.PartMut.{putMid}
-use native.Mathlib.Nat.{not-suc-le-zero, le-of-suc-le-suc, add-zero}
+use native.Mathlib.Nat.{not-suc-le-zero, le-of-suc-le-suc}
 use native.Mathlib.Omega.{arith}
 use native.Mathlib.Decide.{decLt, ℕ-discrete}
-use native.Mathlib.Numerals.{towards-suc, add-one}
-use lib.ListN.{length, getD, take, drop, set, length-append, length-take, length-drop, length-set, List·getD-append, take-append-drop, replicate, length-replicate, getD-replicate}
-use lib.Seq.{length-take-le, getD-append-add, getD-take, getD-drop, getD-set-same, getD-set-other, ext-getD, sets-eq, drop-drop, take-at, drop-at, getD-at, take-add, take-all}
+use lib.ListN.{length, getD, take, drop, set, length-append, length-take, length-drop, length-set, List·getD-append}
+use lib.Seq.{length-take-le, getD-append-add, getD-take, getD-drop, getD-set-same, getD-set-other, set-out, ext-getD, drop-drop}
 use Rattle.lists.specs.Tab.{tab, removeAt, put}
 
 -- ---- a tabulated list
@@ -49,6 +49,17 @@ module _ {A : Type 0} where
 
   getD-append-at : (p q : List A) (n j : ℕ) (d : A) → length p ≡ n → getD (p ++ q) (n + j) d ≡ getD q j d
   getD-append-at p q n j d e = subst (λ (k : ℕ). getD (p ++ q) (k + j) d ≡ getD q j d) e (getD-append-add p q j d)
+
+-- an entry of a list with one element changed: as it was, or the new one
+pub set-cases : {A : Type 0} (l : List A) (k : ℕ) (v : A) (i : ℕ) (d : A) → (getD (set l k v) i d ≡ getD l i d) ⊎ ((i ≡ k) × (getD (set l k v) i d ≡ v))
+set-cases l k v i d =
+    elim (ℕ-discrete i k) [
+      | yes e ↦ elim (decLt k (length l)) [
+        | yes b ↦ inr (e, rw e (getD-set-same l k v d b))
+        | no b ↦ inl (rw (set-out l k v (omega arith)))
+      ]
+      | no ne ↦ inl (getD-set-other l k i v d ne)
+    ]
 
 -- a list of three
 pub three : {A : Type 0} (d : A) (t : List A) → length t ≡ 3 → t ≡ getD t 0 d ∷ getD t 1 d ∷ getD t 2 d ∷ []

@@ -1,7 +1,6 @@
 -- "The lowest faulty index is given."
-use mathlib.Core.Path.{_≡_}
-use mathlib.Core.Bool.{Bool, true, false, _||_, cond}
-use Prim.Native.Nat.{ℕ, zero, suc, _<_}
+use mathlib.Core.Bool.{Bool, false, _||_, cond}
+use Prim.Native.Nat.{ℕ, zero, suc}
 
 -- the lowest number below n at which the test fires; n where it fires at none
 unfoldable pub lowest : ℕ → (ℕ → Bool) → ℕ

@@ -6,3 +6,4 @@ pub mod Room
 pub mod Seating
 pub mod Seats
 pub mod TrialOrders
+pub mod Turns

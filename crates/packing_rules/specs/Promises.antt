@@ -1,5 +1,5 @@
 -- What a planner and a statistician may rely on, whatever is packed. Laws: proofs/Planner.antt, proofs/Seating.antt, proofs/Boxes.antt.
-use Prim.Native.Nat.{ℕ, _≤_, _<_}
+use Prim.Native.Nat.{ℕ, _<_}
 use mathlib.Core.Path.{_≡_}
 use mathlib.Core.List.{List, [], _∷_, _++_}
 use mathlib.Core.Bool.{true}
@@ -10,16 +10,11 @@ use Rattle.bin_section.specs.declared.section.BinSection.{BinSection}
 use Rattle.replies.specs.Replies.{reply}
 use Rattle.bin_section.specs.Section.{section, zeroSection}
 use Rattle.try_place.specs.declared.packed_location.PackedLocation.{PackedLocation}
+use Rattle.try_place.specs.Try.{Fits}
 use Rattle.packing_rules.specs.Rules.{stops}
 use Rattle.grouped_rects_to_place.specs.declared.rect_to_place.RectToPlace.{RectToPlace}
 use Rattle.packing_rules.specs.Seats.{Seat, unplaced, seat}
-use Rattle.packing_rules.specs.Packing.{State, trialIn, isWhole, ended, packGroups}
-
--- a section fits a rectangle that is not "wider, taller, deeper than the section"
-pub record Fits (s : BinSection) (r : RectToInsert) : Type 0 where
-  pub width-fits : r .whd .width ≤ s .whd .width
-  pub height-fits : r .whd .height ≤ s .whd .height
-  pub depth-fits : r .whd .depth ≤ s .whd .depth
+use Rattle.packing_rules.specs.Packing.{State, trialIn, isWhole, Ended, ended, packGroups}
 
 -- "no free section of any chamber fits it"
 pub record NoSectionFits (order : List ℕ) (r : RectToInsert) (frees : List (List BinSection)) : Type 0 where
@@ -36,12 +31,12 @@ pub record NoneServes (order : List ℕ) (r : ℕ → RectToPlace) (group : List
   pub at : (t : ℕ) → t < length order → trialIn r group frees (getD order t 0) ≡ stops
 
 -- "If none serves, the answer is 7, the later groups are not tried, and earlier groups stay": the groups before the refused one were
--- all placed, and nothing has changed since
-pub record RefusedAt (order : List ℕ) (ids : ℕ → ℕ) (r : ℕ → RectToPlace) (groups : List (List ℕ)) (s : State) (earlier : List (List ℕ)) (refused : List ℕ) (later : List (List ℕ)) : Type 0 where
+-- all placed, and nothing has changed since. e: how the packing of the groups ended
+pub record RefusedAt (order : List ℕ) (ids : ℕ → ℕ) (r : ℕ → RectToPlace) (groups : List (List ℕ)) (s : State) (e : Ended) (earlier : List (List ℕ)) (refused : List ℕ) (later : List (List ℕ)) : Type 0 where
   pub among : groups ≡ earlier ++ (refused ∷ later)
-  pub stay : packGroups order ids r earlier s ≡ ended (reply 0 0) (packGroups order ids r groups s .after)
-  pub seven : packGroups order ids r groups s .answer ≡ reply 7 (getD refused 0 0)
-  pub none-serves : NoneServes order r refused (packGroups order ids r groups s .after .frees)
+  pub stay : packGroups order ids r earlier s ≡ ended (reply 0 0) (e .after)
+  pub seven : e .answer ≡ reply 7 (getD refused 0 0)
+  pub none-serves : NoneServes order r refused (e .after .frees)
 
 -- the box that is placed at a location
 abbrev pub boxAt : PackedLocation → BinSection

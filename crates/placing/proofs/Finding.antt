@@ -5,9 +5,8 @@ use mathlib.Core.List.{List, [], _∷_, _++_}
 use types.Run.{OneOf, miss}
 use denote.Enum.Declared.{tagOf}
 use native.Mathlib.Omega.{arith}
-use lib.ListN.{length, getD}
+use lib.ListN.{getD}
 use Rattle.lists.specs.Tab.{removeAt}
-use Rattle.bin_section.specs.declared.section.BinSection.{BinSection}
 use Rattle.bin_section.specs.declared.rect_to_insert.RectToInsert.{RectToInsert}
 use Rattle.bin_section.specs.Section.{sectionAt, zeroSection}
 use Rattle.sections.specs.Sections.{sections}
@@ -26,7 +25,7 @@ use Rattle.try_place.proofs.TryAnswer.{the-type}
 use Rattle.try_place.specs.declared.Tried as Try
 use Rattle.try_place.specs.Try.{fitOf, onPlaced}
 use Rattle.packing_rules.specs.Appended.{appendedOf}
-use Rattle.packing_rules.specs.Rules.{One, nowhere, placed, placeFrom, placeOne}
+use Rattle.packing_rules.specs.Rules.{nowhere, placed, placeFrom, placeOne}
 
 -- the answer is taken apart: a refusal goes on with what else there is
 pub refused-else :

@@ -1,40 +1,34 @@
 -- Laws of one group and one chamber: the trial there, and the tables once the group stands there.
 use Prim.Native.Nat.{ℕ, _+_, _*_, _-_, _/_, _≤_, _<_}
-use mathlib.Core.Path.{_≡_, refl, sym, ap, ap₂, _∙_}
-use mathlib.Core.List.{List, [], _∷_}
+use mathlib.Core.Path.{_≡_, refl, sym, ap, _∙_}
+use mathlib.Core.List.{List, []}
 use mathlib.Core.Bool.{Bool, true, false}
 use native.Mathlib.Decide.{ℕ-discrete}
-use borrow.Author.Tests.{le-ltb, lt-ltb}
 use native.Mathlib.Omega.{arith}
-use lib.Dec.{ltb}
-use lib.ListN.{length, getD, take, drop, set, length-set, length-take}
-use lib.Seq.{getD-take}
-use Rattle.lists.specs.Lowest.{lowest}
+use lib.ListN.{length, getD, take, drop, set, length-set}
+use lib.Seq.{getD-take, length-take-le}
 use Rattle.lists.specs.Tab.{put}
 use Rattle.lists.proofs.Flags.{true-false}
-use Rattle.lists.proofs.Lowests.{None, lowest-here, lowest-end, lowest-fires}
+use Rattle.lists.proofs.Lowests.{None}
 use Rattle.lists.proofs.Tabs.{length-put}
 use Rattle.bin_section.specs.declared.section.BinSection.{BinSection}
-use Rattle.bin_section.specs.Section.{sectionAt, zeroSection}
 use Rattle.sections.specs.Sections.{sections}
 use Rattle.sections.specs.Changes.{ZeroPast}
-use Rattle.sections.proofs.Reading.{getD-sections}
-use Rattle.try_place.specs.declared.packed_location.PackedLocation.{PackedLocation}
 use Rattle.placing.specs.Place.{Reaching}
-use Rattle.packing_rules.specs.Rules.{Trial, stops, whole, placeGroup}
+use Rattle.placing.proofs.Reaches.{reaching-each, each-reaching}
+use Rattle.packing_rules.specs.Rules.{stops, whole, placeGroup}
 use Rattle.target_bin.specs.declared.chamber.TargetBin.{TargetBin}
 use Rattle.target_bin.specs.Chambers.{chamberAt, chamberCount}
-use Rattle.target_bin.specs.Checks.{Shaped}
 use Rattle.target_bin.specs.Lending.{OnlyIn}
 use Rattle.target_bin.specs.Store.{partAt, freeAt, freeOf}
-use Rattle.target_bin.proofs.Parts.{length-partAt, partAt-put-same, partAt-put-other, only-in, lent-part, came-back, getD-freeOf, free-set}
+use Rattle.target_bin.proofs.Parts.{length-partAt, partAt-put-same, partAt-put-other, only-in, lent-part, getD-freeOf, free-set}
 use Rattle.target_bin.proofs.Tables.{chamberAt-set-same, chamberAt-set-other}
 use Rattle.grouped_rects_to_place.specs.declared.rect_to_place.RectToPlace.{RectToPlace}
-use Rattle.grouped_rects_to_place.specs.Rect.{rectAt}
-use Rattle.packing_rules.specs.Packing.{state, rectsAt, trialIn, isWhole, firstWhole, changedBy, changed}
-use Rattle.packing_rules.specs.Seats.{Seat, seated}
+use Rattle.packing_rules.specs.Packing.{state, rectsAt, trialIn, isWhole, changed}
+use Rattle.packing_rules.proofs.Turns.{not-whole, is-whole, changed-is}
+use Rattle.packing_rules.specs.Seats.{Seat}
 use Rattle.rectangle_pack.specs.Records.{placementsOf}
-use Rattle.rectangle_pack.specs.Leaning.{Enough, GroupOf, Committed, Indices, SameShape, Ready, Clean, Kept, ChangedTo, Served, Grouped}
+use Rattle.rectangle_pack.specs.Leaning.{Enough, Committed, SameShape, Ready, Clean, ChangedTo, FirstFit, Served, Grouped}
 
 -- ---- a chamber's part, as the tables say
 
@@ -68,15 +62,7 @@ module _ (c st : List ℕ) (m k : ℕ) (ready : Ready c st m) (here : k < chambe
 -- ---- the trial on a copy
 
 pub reaching-same : (a b : List ℕ) (n : ℕ) → sections a n ≡ sections b n → Reaching n b → Reaching n a
-reaching-same a b n e p =
-    record {
-      at = λ i h.
-          let f : sectionAt a i ≡ sectionAt b i =
-          sym (getD-sections a n i zeroSection h)
-          ∙ ap (λ (l : List BinSection). getD l i zeroSection) e
-          ∙ getD-sections b n i zeroSection h in
-          rw f (p .at i h);
-    }
+reaching-same a b n e p = each-reaching n a (rw e (reaching-each n b p))
 
 pub copy-enough :
     (n m : ℕ) (part copy : List ℕ)
@@ -96,40 +82,32 @@ pub trial-here :
     → b ≡ isWhole (trialIn r group (freeOf c st) k)
 unfolding trialIn freeAt
 trial-here c st copy group k r bin b h e s t =
-    let f : sections copy (bin .count) ≡ getD (freeOf c st) k [] =
-    s
-    ∙ ap (λ (w : List ℕ). sections w (bin .count)) (lent-part st k)
-    ∙ ap (λ (x : TargetBin). sections (partAt st k) (x .count)) e
-    ∙ sym (getD-freeOf c st k [] h) in
-    t ∙ ap (λ (free : List BinSection). isWhole (placeGroup free (rectsAt r group))) f
+    t ∙ rw (s, lent-part st k, e, getD-freeOf c st k [] h)
 
 -- ---- the first chamber where all fit
 
-module _ (order : List ℕ) (n : ℕ) (r : ℕ → RectToPlace) (group : List ℕ) (frees : List (List BinSection)) (room : n ≤ length order) where
-  abbrev wholeAt : ℕ → Bool
-  wholeAt t = isWhole (trialIn r group frees (getD order t 0))
+module _ (order : List ℕ) (n : ℕ) (r : ℕ → RectToPlace) (group : List ℕ) (frees : List (List BinSection)) (room : n ≤ length order) (t : ℕ)
+    (passed : None t (λ i. isWhole (trialIn r group frees (getD order i 0)))) where
+  stopped : (u : ℕ) → u < t → u < n → trialIn r group frees (getD (take n order) u 0) ≡ stops
+  stopped u l h = rw (getD-take n order u 0 h) (not-whole _ (passed .at u l))
 
-  abbrev wholeIn : ℕ → Bool
-  wholeIn t = isWhole (trialIn r group frees (getD (take n order) t 0))
+  pub serves-here : t < n → isWhole (trialIn r group frees (getD order t 0)) ≡ true → FirstFit (take n order) r group frees n t
+  serves-here h e =
+      record {
+        serves = λ _. record {
+          within = omega (arith, length-take-le n order room);
+          earlier-stop = λ u l. stopped u l (omega arith);
+          all-fit = rw (getD-take n order t 0 h) e;
+        };
+        none-serves = λ g. absurd (omega arith);
+      }
 
-  same-entry : (t : ℕ) → t < n → wholeIn t ≡ wholeAt t
-  same-entry t h = ap (λ (k : ℕ). isWhole (trialIn r group frees k)) (getD-take n order t 0 h)
-
-  ordered-long : length (take n order) ≡ n
-  ordered-long = length-take n order ∙ omega arith
-
-  passed : (t : ℕ) → None t wholeAt → t ≤ n → None t wholeIn
-  passed t p h = record { at = λ i l. same-entry i (omega arith) ∙ p .at i l }
-
-  pub whole-here : (t : ℕ) → None t wholeAt → t < n → wholeAt t ≡ true → t ≡ firstWhole (take n order) r group frees
-  unfolding firstWhole
-  whole-here t p h e =
-      sym (ap (λ (m : ℕ). lowest m wholeIn) ordered-long ∙ lowest-here n t wholeIn (passed t p (omega arith)) h (same-entry t h ∙ e))
-
-  pub whole-nowhere : (t : ℕ) → None t wholeAt → t ≤ n → n ≤ t → n ≡ firstWhole (take n order) r group frees
-  unfolding firstWhole
-  whole-nowhere t p h g =
-      sym (ap (λ (m : ℕ). lowest m wholeIn) ordered-long ∙ lowest-end n t wholeIn (passed t p h) g)
+  pub serves-nowhere : n ≤ t → FirstFit (take n order) r group frees n n
+  serves-nowhere g =
+      record {
+        serves = λ h. absurd (omega arith);
+        none-serves = λ _. record { at = λ u l. stopped u (omega (arith, length-take-le n order room)) (omega (arith, length-take-le n order room)) };
+      }
 
 -- ---- the group stands in chamber k
 
@@ -170,89 +148,65 @@ module _ (c st p p′ : List ℕ) (k m n : ℕ) (r : ℕ → RectToPlace) (group
   count-read : bin .count ≡ chamberAt c k .count
   count-read = ap (λ (x : TargetBin). x .count) read
 
-  pub same-shape : SameShape c c′
+  -- a fact of each chamber and its part: of this one as it is now, and of the others as they were
+  each-chamber :
+      (Q : ℕ → TargetBin → List ℕ → Type 0)
+      → Q k (record { id = chamberAt c k .id; whd = chamberAt c k .whd; count = n }) part′
+      → ((i : ℕ) → Q i (chamberAt c i) (partAt st i))
+      → (i : ℕ)
+      → Q i (chamberAt c′ i) (partAt st′ i)
+  each-chamber Q here others i = elim (ℕ-discrete i k) [ yes e ↦ rw (e, at-here, part-here) here | no ne ↦ rw (at-other i ne, part-other i ne) (others i) ]
+
+  same-shape : SameShape c c′
   same-shape =
       record {
         long = length-set c (k * 5 + 4) n;
-        ids = λ i. id-at i (ℕ-discrete i k);
-        sides = λ i. whd-at i (ℕ-discrete i k);
+        ids = each-chamber (λ i b w. b .id ≡ chamberAt c i .id) refl (λ i. refl);
+        sides = each-chamber (λ i b w. b .whd ≡ chamberAt c i .whd) refl (λ i. refl);
       }
-    where
-      id-at : (i : ℕ) → Dec (i ≡ k) → chamberAt c′ i .id ≡ chamberAt c i .id
-      id-at i (yes e) = rw e (ap (λ (x : TargetBin). x .id) at-here)
-      id-at i (no ne) = ap (λ (x : TargetBin). x .id) (at-other i ne)
 
-      whd-at : (i : ℕ) → Dec (i ≡ k) → chamberAt c′ i .whd ≡ chamberAt c i .whd
-      whd-at i (yes e) = rw e (ap (λ (x : TargetBin). x .whd) at-here)
-      whd-at i (no ne) = ap (λ (x : TargetBin). x .whd) (at-other i ne)
-
-  count-here : chamberAt c′ k .count ≡ n
-  count-here = ap (λ (x : TargetBin). x .count) at-here
-
-  count-other : (i : ℕ) → (i ≡ k → ⊥) → chamberAt c′ i .count ≡ chamberAt c i .count
-  count-other i ne = ap (λ (x : TargetBin). x .count) (at-other i ne)
-
-  pub still-ready : (rest : ℕ) → Ready c st (length group + rest) → Ready c′ st′ rest
+  still-ready : (rest : ℕ) → Ready c st (length group + rest) → Ready c′ st′ rest
   still-ready rest old =
+      let room-at =
+      each-chamber (λ i b w. i < chamberCount c → b .count + 2 * rest ≤ 128) (λ h. omega (arith, done .room, count-read, old .room k h))
+      (λ i h. omega (arith, old .room i h)) in
       record {
         shaped = record {
           few = omega (arith, count-long, old .shaped .few);
           whole = omega (arith, count-long, same-shape .long, old .shaped .whole);
           long = omega (arith, count-long, store-long, old .shaped .long);
-          counted = record { counts = λ i h. omega (arith, room-at i h (ℕ-discrete i k)) };
+          counted = record { counts = λ i h. omega (arith, room-at i (omega (arith, count-long))) };
         };
-        room = λ i h. room-at i h (ℕ-discrete i k);
-        reach = λ i h. reach-at i h (ℕ-discrete i k);
+        room = λ i h. room-at i (omega (arith, count-long));
+        reach = λ i h. each-chamber (λ i b w. i < chamberCount c → Reaching (b .count) w) (λ _. done .reach) (old .reach) i (omega (arith, count-long));
       }
-    where
-      room-at : (i : ℕ) → i < chamberCount c′ → Dec (i ≡ k) → chamberAt c′ i .count + 2 * rest ≤ 128
-      room-at i h (yes e) =
-          rw e (omega (arith, count-here, done .room, count-read, old .room k here))
-      room-at i h (no ne) = omega (arith, count-other i ne, old .room i (omega (arith, count-long)))
 
-      reach-at : (i : ℕ) → i < chamberCount c′ → Dec (i ≡ k) → Reaching (chamberAt c′ i .count) (partAt st′ i)
-      reach-at i h (yes e) = rw (e, count-here, part-here) (done .reach)
-      reach-at i h (no ne) = rw (count-other i ne, part-other i ne) (old .reach i (omega (arith, count-long)))
+  still-clean : Clean c st → Clean c′ st′
+  still-clean old =
+      record {
+        zeros = λ i h.
+            each-chamber (λ i b w. i < chamberCount c → ZeroPast (b .count) w)
+            (λ _. done .zeros (rw (lent-part st k, count-read) (old .zeros k here))) (old .zeros) i (omega (arith, count-long));
+      }
 
-  pub still-clean : Clean c st → Clean c′ st′
-  still-clean old = record { zeros = λ i h. zero-at i h (ℕ-discrete i k) }
-    where
-      zero-at : (i : ℕ) → i < chamberCount c′ → Dec (i ≡ k) → ZeroPast (chamberAt c′ i .count) (partAt st′ i)
-      zero-at i h (yes e) =
-          rw (e, count-here, part-here) (done .zeros (rw (lent-part st k, count-read) (old .zeros k here)))
-      zero-at i h (no ne) = rw (count-other i ne, part-other i ne) (old .zeros i (omega (arith, count-long)))
-
-  pub stands :
+  stands :
       (seats : List Seat)
       → isWhole (trialIn r group (freeOf c st) k) ≡ true
       → p ≡ placementsOf seats
       → ChangedTo (changed r (chamberAt c k .id) k group (state (freeOf c st) seats)) c′ st′ p′
-  unfolding changed trialIn freeAt
-  stands seats = go (trialIn r group (freeOf c st) k) refl
-    where
-      at-free : getD (freeOf c st) k [] ≡ sections (take (k * 768 + 768 - k * 768) (drop (k * 768) st)) (bin .count)
-      at-free =
-          getD-freeOf c st k [] here
-          ∙ sym (ap (λ (w : List ℕ). sections w (bin .count)) (lent-part st k) ∙ ap (sections (partAt st k)) count-read)
-
-      go :
-          (t : Trial)
-          → placeGroup (getD (freeOf c st) k []) (rectsAt r group) ≡ t
-          → isWhole t ≡ true
-          → p ≡ placementsOf seats
-          → ChangedTo (changedBy t (chamberAt c k .id) k group (state (freeOf c st) seats)) c′ st′ p′
-      go stops e w q = absurd (true-false (sym w))
-      go (whole ls f) e w q =
-          let g : placeGroup (sections (take (k * 768 + 768 - k * 768) (drop (k * 768) st)) (bin .count)) (rectsAt r group) ≡ whole ls f =
-          rw at-free at e in
-          record {
-            frees =
-                free-set c c′ st st′ k f count-long here
-                only-here
-                (rw (part-here, count-here) (done .free ls f g))
-                count-other;
-            seats = done .seats ls f seats g q ∙ ap (λ (x : TargetBin). placementsOf (seated (x .id) group ls seats)) read;
-          }
+  unfolding trialIn freeAt
+  stands seats w q =
+      let v = is-whole (trialIn r group (freeOf c st) k) w in
+      let at-free : getD (freeOf c st) k [] ≡ sections (take (k * 768 + 768 - k * 768) (drop (k * 768) st)) (bin .count) =
+      rw (lent-part st k, count-read) (getD-freeOf c st k [] here) in
+      let g : placeGroup (sections (take (k * 768 + 768 - k * 768) (drop (k * 768) st)) (bin .count)) (rectsAt r group) ≡ whole (v .0) (v .1) = rw at-free at (v .2) in
+      rw (changed-is (λ j. chamberAt c j .id) r group (state (freeOf c st) seats) k (v .0) (v .1) (v .2))
+      (record {
+        frees =
+            free-set c c′ st st′ k (v .1) count-long here only-here (rw (part-here, at-here) (done .free (v .0) (v .1) g))
+            (λ i ne. ap (λ (x : TargetBin). x .count) (at-other i ne));
+        seats = rw (← (ap (λ (x : TargetBin). x .id) read)) (done .seats (v .0) (v .1) seats g q);
+      })
 
   pub served :
       (cx stx : List ℕ)
@@ -266,37 +220,19 @@ module _ (c st p p′ : List ℕ) (k m n : ℕ) (r : ℕ → RectToPlace) (group
 
 -- ---- one group: no chamber serves it, or the first that does has it
 
-less-ready : (c st : List ℕ) (m rest : ℕ) → Ready c st (m + rest) → Ready c st rest
-less-ready c st m rest old =
-    record { shaped = old .shaped; room = λ k h. omega (arith, old .room k h); reach = old .reach }
-
-module _ (order : List ℕ) (n : ℕ) (r : ℕ → RectToPlace) (group c st p : List ℕ) (room : n ≤ length order) (t : ℕ)
-    (first : t ≡ firstWhole (take n order) r group (freeOf c st)) where
-  long-order : length (take n order) ≡ n
-  long-order = length-take n order ∙ omega arith
-
+module _ (order : List ℕ) (n : ℕ) (r : ℕ → RectToPlace) (group c st p : List ℕ) (t : ℕ) (first : FirstFit (take n order) r group (freeOf c st) n t) where
   pub grouped-none : n ≤ t → Grouped (take n order) r group false c st p c st p
   grouped-none h =
       record {
         kept = record {
           same = record { long = refl; ids = λ i. refl; sides = λ i. refl };
-          ready = λ rest old. less-ready c st (length group) rest old;
+          ready = λ rest old. record { shaped = old .shaped; room = λ k l. omega (arith, old .room k l); reach = old .reach };
           clean = λ z. z;
         };
         long = refl;
-        found = sym (le-ltb (firstWhole (take n order) r group (freeOf c st)) (length (take n order)) (omega (arith, first, long-order)));
-        changes = λ seats e. absurd (true-false (sym e));
-        none = λ seats e q. record { frees = refl; seats = q };
+        taken = λ e. absurd (true-false (sym e));
+        refused = λ e. (first .none-serves h, λ seats q. record { frees = refl; seats = q });
       }
-
-  here-is : t < n → getD order t 0 ≡ getD (take n order) (firstWhole (take n order) r group (freeOf c st)) 0
-  here-is h = sym (getD-take n order t 0 h) ∙ ap (λ (i : ℕ). getD (take n order) i 0) first
-
-  whole-there : t < n → isWhole (trialIn r group (freeOf c st) (getD order t 0)) ≡ true
-  unfolding firstWhole
-  whole-there h =
-      ap (λ (k : ℕ). isWhole (trialIn r group (freeOf c st) k)) (here-is h)
-      ∙ lowest-fires (length (take n order)) (λ i. isWhole (trialIn r group (freeOf c st) (getD (take n order) i 0))) (omega (arith, first, long-order))
 
   pub grouped-served :
       (c′ st′ p′ : List ℕ)
@@ -304,10 +240,10 @@ module _ (order : List ℕ) (n : ℕ) (r : ℕ → RectToPlace) (group c st p : 
       → Served r group (getD order t 0) c st p c′ st′ p′
       → Grouped (take n order) r group true c st p c′ st′ p′
   grouped-served c′ st′ p′ h s =
+      let q = first .serves h in
       record {
         kept = s .kept;
         long = s .long;
-        found = sym (lt-ltb (firstWhole (take n order) r group (freeOf c st)) (length (take n order)) (omega (arith, first, long-order)));
-        changes = λ seats e q. rw (here-is h) at (s .changes seats (whole-there h) q);
-        none = λ seats e. absurd (true-false e);
+        taken = λ e. (t, q, rw (getD-take n order t 0 h) (λ seats. s .changes seats (rw (getD-take n order t 0 h) at (q .all-fit))));
+        refused = λ e. absurd (true-false e);
       }

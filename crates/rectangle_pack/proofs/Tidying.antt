@@ -4,12 +4,10 @@ use mathlib.Core.Path.{_≡_, refl, sym, ap, _∙_}
 use mathlib.Core.List.{List, []}
 use native.Mathlib.Decide.{ℕ-discrete}
 use native.Mathlib.Omega.{arith}
-use lib.ListN.{length, getD, take, drop}
+use lib.ListN.{length, take, drop}
 use lib.Seq.{ext-getD}
-use Rattle.bin_section.specs.declared.section.BinSection.{BinSection}
 use Rattle.sections.specs.Sections.{sections}
 use Rattle.sections.specs.Changes.{ZeroPast, Cleared}
-use Rattle.lists.specs.Tab.{tab}
 use Rattle.lists.proofs.Tabs.{length-tab, getD-tab}
 use Rattle.target_bin.specs.declared.chamber.TargetBin.{TargetBin}
 use Rattle.target_bin.specs.Chambers.{chamberAt, chamberCount}
@@ -17,7 +15,7 @@ use Rattle.target_bin.specs.Checks.{Shaped}
 use Rattle.target_bin.specs.Lending.{InChamber}
 use Rattle.target_bin.specs.Store.{partAt, freeAt, freeOf}
 use Rattle.target_bin.proofs.Parts.{length-partAt, lent-part}
-use Rattle.rectangle_pack.specs.Leaning.{Clean, Tidied, Ready}
+use Rattle.rectangle_pack.specs.Leaning.{Tidied, Ready}
 use Rattle.rectangle_pack.proofs.Serving.{reaching-same}
 
 pub tail-room : (c st : List ℕ) (k : ℕ) (b : TargetBin) → Shaped c st → k < chamberCount c → b ≡ chamberAt c k → b .count * 6 ≤ length (take (k * 768 + 768 - k * 768) (drop (k * 768) st))

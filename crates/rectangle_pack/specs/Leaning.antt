@@ -2,7 +2,7 @@
 use Prim.Native.Nat.{ℕ, _+_, _*_, _≤_, _<_}
 use mathlib.Core.Path.{_≡_}
 use mathlib.Core.List.{List}
-use lib.ListN.{length, getD, take}
+use lib.ListN.{length, getD}
 use Rattle.bin_section.specs.declared.rect_to_insert.RectToInsert.{RectToInsert}
 use Rattle.bin_section.specs.declared.section.BinSection.{BinSection}
 use Rattle.bin_section.specs.Sides.{Small}
@@ -12,7 +12,6 @@ use Rattle.try_place.specs.declared.packed_location.PackedLocation.{PackedLocat
 use Rattle.placing.specs.Place.{Reaching}
 use Rattle.packing_rules.specs.Rules.{whole, placeGroup}
 use mathlib.Core.Bool.{Bool, true, false}
-use lib.Dec.{ltb}
 use Rattle.target_bin.specs.Chambers.{chamberAt, chamberCount}
 use Rattle.target_bin.specs.Checks.{Shaped}
 use Rattle.target_bin.specs.Store.{partAt, freeOf}
@@ -20,7 +19,8 @@ use Rattle.grouped_rects_to_place.specs.declared.rect_to_place.RectToPlace.{Rec
 use Rattle.replies.specs.declared.reply.Reply.{Reply}
 use Rattle.grouped_rects_to_place.specs.Rect.{rectAt, rectWidth, rectCount, GoodRects}
 use Rattle.placement.specs.Placements.{placementWidth}
-use Rattle.packing_rules.specs.Packing.{State, state, rectsAt, trialIn, isWhole, firstWhole, changed, Ended, packGroups}
+use Rattle.packing_rules.specs.Packing.{State, state, rectsAt, trialIn, isWhole, changed, Ended, packGroups}
+use Rattle.packing_rules.specs.Promises.{Serves, NoneServes}
 use Rattle.packing_rules.specs.Order.{trialOrder}
 use Rattle.grouped_rects_to_place.specs.Groups.{groupsOf}
 use Rattle.packing_rules.specs.Seats.{Seat, seated}
@@ -102,20 +102,26 @@ pub record Served (r : ℕ → RectToPlace) (group : List ℕ) (k : ℕ) (c st p
       → p ≡ placementsOf seats
       → ChangedTo (changed r (chamberAt c k .id) k group (state (freeOf c st) seats)) c′ st′ p′
 
+-- the first of n chambers in their order where all of the group fits; n where none serves
+pub record FirstFit (order : List ℕ) (r : ℕ → RectToPlace) (group : List ℕ) (frees : List (List BinSection)) (n t : ℕ) : Type 0 where
+  pub serves : t < n → Serves order r group frees t
+  pub none-serves : n ≤ t → NoneServes order r group frees
+
 -- one group served, or none of the tables changed
 pub record Grouped (order : List ℕ) (r : ℕ → RectToPlace) (group : List ℕ) (b : Bool) (c st p c′ st′ p′ : List ℕ) : Type 0 where
   pub kept : Kept (length group) c st c′ st′
   pub long : length p′ ≡ length p
-  pub found : b ≡ ltb (firstWhole order r group (freeOf c st)) (length order)
-  pub changes :
-      (seats : List Seat)
-      → b ≡ true
+  pub taken :
+      b ≡ true
+      → (t : ℕ)
+      × Serves order r group (freeOf c st) t
+      × ((seats : List Seat)
       → p ≡ placementsOf seats
-      → ChangedTo
-      (changed r (chamberAt c (getD order (firstWhole order r group (freeOf c st)) 0) .id)
-      (getD order (firstWhole order r group (freeOf c st)) 0) group (state (freeOf c st) seats))
-      c′ st′ p′
-  pub none : (seats : List Seat) → b ≡ false → p ≡ placementsOf seats → ChangedTo (state (freeOf c st) seats) c′ st′ p′
+      → ChangedTo (changed r (chamberAt c (getD order t 0) .id) (getD order t 0) group (state (freeOf c st) seats)) c′ st′ p′)
+  pub refused :
+      b ≡ false
+      → NoneServes order r group (freeOf c st)
+      × ((seats : List Seat) → p ≡ placementsOf seats → ChangedTo (state (freeOf c st) seats) c′ st′ p′)
 
 -- the sections are as they were, and zeros stand past each count
 pub record Tidied (c st st′ : List ℕ) : Type 0 where

@@ -6,8 +6,8 @@ ghost use Rattle.target_bin.specs.Chambers.{chamberCount};
 ghost use Rattle.target_bin.specs.Store.{freeOf};
 ghost use Rattle.grouped_rects_to_place.specs.Rect.{rectAt, rectCount};
 ghost use Rattle.placement.specs.Placements.{HasPlacements};
-ghost use Rattle.packing_rules.specs.Packing.{trialIn, isWhole, firstWhole};
-ghost use Rattle.rectangle_pack.specs.Leaning.{GroupOf, Indices, Ready, Served, Grouped};
+ghost use Rattle.packing_rules.specs.Packing.{trialIn, isWhole};
+ghost use Rattle.rectangle_pack.specs.Leaning.{GroupOf, Indices, Ready, FirstFit, Served, Grouped};
 use crate::trial::commit;
 use crate::trial::copy_sections;
 use crate::trial::trial;
@@ -46,7 +46,7 @@ fn first_fitting(
     copy: &mut [u32],
 ) -> usize
     requires { ⌜ Ready (now chambers) (now store) m × Indices (chamberCount (now chambers)) n (now order) × GroupOf (now rects) m (now group) × (length (now copy) ≡ 768) ⌝ }
-    ensures { λ t. ⌜ (t ≡ firstWhole (take n (now (order .entry))) (rectAt (now (rects .entry))) (take m (now (group .entry))) (freeOf (now (chambers .entry)) (now (store .entry)))) × (t ≤ n) ⌝ }
+    ensures { λ t. ⌜ FirstFit (take n (now (order .entry))) (rectAt (now (rects .entry))) (take m (now (group .entry))) (freeOf (now (chambers .entry)) (now (store .entry))) n t ⌝ }
 {
     let mut t = 0;
     while t < n {

@@ -16,7 +16,8 @@ use Rattle.target_bin.specs.Store.{partAt, partOf, freeOf, storeOf}
 use Rattle.target_bin.specs.Fresh.{freshened, freshTable, freshStore}
 use Rattle.target_bin.proofs.Tables.{length-chambersOf, getD-chambersOf, count-tableOf, chamberAt-tableOf, table-decoded}
 use Rattle.target_bin.proofs.Parts.{length-partOf, sections-partOf, partAt-storeOf, store-decoded}
-use Rattle.target_bin.proofs.Passing.{Lengths, SidesInRange, ShapesSound, Sound}
+use Rattle.bin_section.proofs.Ranges.{SidesInRange}
+use Rattle.target_bin.proofs.Passing.{Lengths, ShapesSound, Sound}
 use Rattle.target_bin.proofs.Freshening.{wholeOf, freshAt, wholeAt, fresh-table, fresh-store}
 
 getD-map-in : {A B : Type 0} (f : A → B) (l : List A) (i : ℕ) (e : B) (d : A) → i < length l → getD (map f l) i e ≡ f (getD l i d)

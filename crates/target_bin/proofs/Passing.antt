@@ -11,14 +11,14 @@ use lib.Dec.{ltb, leb, eqb}
 use Rattle.lists.specs.Lowest.{lowest}
 use Rattle.lists.proofs.Flags.{and-both, and-first, and-second}
 use Rattle.lists.proofs.Lowests.{None, none-of-lowest, any-none, none-any, lowest-none}
-use Rattle.bin_section.specs.declared.width_height_depth.WidthHeightDepth.{WidthHeightDepth}
 use Rattle.replies.specs.declared.reply.Reply.{Reply}
-use Rattle.bin_section.specs.Sides.{sideOk, sidesOk}
+use Rattle.bin_section.specs.Sides.{sidesOk}
 use Rattle.bin_section.specs.Section.{sectionAt}
 use Rattle.replies.specs.Replies.{reply, inOrder}
 use Rattle.sections.specs.Inside.{outsideAt}
 use Rattle.bin_section.specs.Inside.{Inside}
 use Rattle.bin_section.proofs.Bounding.{inside→, →inside}
+use Rattle.bin_section.proofs.Ranges.{SidesInRange, sides→range, range→sides}
 use Rattle.target_bin.specs.Chambers.{chamberAt, chamberCount}
 use Rattle.target_bin.specs.Store.{partAt}
 use Rattle.target_bin.specs.Checks.{lengthsOk, idOk, shapeOk, chamberOk, badShape, badChamber, badSections, check1, check2, check3, tableChecks, Counted, Shaped}
@@ -41,28 +41,6 @@ lengths chambers store t =
     let rest : (b && d) ≡ true = and-second a (b && d) t in
     record { few = leb-true _ _ (and-first b d rest); whole = omega arith; long = eqb-true _ _ (and-second b d rest) }
 
--- "Sides 1 to 65,535."
-pub record InRange (side : ℕ) : Type 0 where
-  pub some : 0 < side
-  pub most : side ≤ 65535
-
-pub record SidesInRange (whd : WidthHeightDepth) : Type 0 where
-  pub width-ok : InRange (whd .width)
-  pub height-ok : InRange (whd .height)
-  pub depth-ok : InRange (whd .depth)
-
-in-range : (side : ℕ) → sideOk side ≡ true → InRange side
-unfolding sideOk
-in-range side t = record { some = ltb-true _ _ (and-first (ltb 0 side) (leb side 65535) t); most = leb-true _ _ (and-second (ltb 0 side) (leb side 65535) t) }
-
-sides-in-range : (whd : WidthHeightDepth) → sidesOk whd ≡ true → SidesInRange whd
-sides-in-range whd t =
-    let a = sideOk (whd .width) in
-    let b = sideOk (whd .height) in
-    let d = sideOk (whd .depth) in
-    let rest : (b && d) ≡ true = and-second a (b && d) t in
-    record { width-ok = in-range _ (and-first a (b && d) t); height-ok = in-range _ (and-first b d rest); depth-ok = in-range _ (and-second b d rest) }
-
 -- 2, old counts ignored
 pub record ShapesSound (chambers : List ℕ) : Type 0 where
   pub rising : (i : ℕ) → suc i < chamberCount chambers → chamberAt chambers i .id < chamberAt chambers (suc i) .id
@@ -73,7 +51,7 @@ unfolding shapeOk
 shape-ok→ chambers i t =
     let a = idOk chambers i in
     let b = sidesOk (chamberAt chambers i .whd) in
-    (and-first a b t, sides-in-range (chamberAt chambers i .whd) (and-second a b t))
+    (and-first a b t, sides→range (chamberAt chambers i .whd) (and-second a b t))
 
 pub shapes-sound : (chambers : List ℕ) → None (chamberCount chambers) (badShape chambers) → ShapesSound chambers
 unfolding idOk
@@ -136,15 +114,6 @@ module _ (chambers store : List ℕ) where
   →lengths : Lengths chambers store → lengthsOk chambers store ≡ true
   →lengths l = lengths-store chambers store (omega (arith, l .whole)) (l .few) ∙ eq-eqb _ _ (l .long)
 
-→in-range : (side : ℕ) → InRange side → sideOk side ≡ true
-unfolding sideOk
-→in-range side h = and-both (ltb 0 side) (leb side 65535) (lt-ltb _ _ (h .some)) (le-leb _ _ (h .most))
-
-→sides : (whd : WidthHeightDepth) → SidesInRange whd → sidesOk whd ≡ true
-→sides whd h =
-    and-both (sideOk (whd .width)) (sideOk (whd .height) && sideOk (whd .depth)) (→in-range _ (h .width-ok))
-    (and-both (sideOk (whd .height)) (sideOk (whd .depth)) (→in-range _ (h .height-ok)) (→in-range _ (h .depth-ok)))
-
 →id : (chambers : List ℕ) (i : ℕ) → ShapesSound chambers → i < chamberCount chambers → idOk chambers i ≡ true
 unfolding idOk
 →id chambers zero h l = refl
@@ -152,7 +121,7 @@ unfolding idOk
 
 →shape : (chambers : List ℕ) (i : ℕ) → ShapesSound chambers → i < chamberCount chambers → shapeOk chambers i ≡ true
 unfolding shapeOk
-→shape chambers i h l = and-both (idOk chambers i) (sidesOk (chamberAt chambers i .whd)) (→id chambers i h l) (→sides _ (h .sides i l))
+→shape chambers i h l = and-both (idOk chambers i) (sidesOk (chamberAt chambers i .whd)) (→id chambers i h l) (range→sides _ (h .sides i l))
 
 →chamber : (chambers : List ℕ) (i : ℕ) → ShapesSound chambers → chamberAt chambers i .count ≤ 128 → i < chamberCount chambers → chamberOk chambers i ≡ true
 unfolding chamberOk

@@ -1,49 +1,42 @@
 -- The chosen place is a choice, and there is only one.
-use Prim.Native.Nat.{ℕ, zero, suc, _≤_, _<_, _+_}
-use mathlib.Core.Path.{_≡_, refl, sym, ap, subst, _∙_}
-use mathlib.Core.List.{List, [], _∷_}
+use Prim.Native.Nat.{ℕ, zero, suc, _<_, _+_}
+use mathlib.Core.Path.{_≡_, refl, sym, ap, _∙_}
+use mathlib.Core.List.{List}
 use mathlib.Core.Bool.{Bool, true, false}
-use mathlib.Core.Logic.{_⊎_, inl, inr, ⊎-elim, _↔_}
+use mathlib.Core.Logic.{_⊎_, inl, inr, ⊎-elim}
 use native.Mathlib.Omega.{arith}
-use native.Mathlib.Nat.{eq-or-lt-of-le, le-of-suc-le-suc}
+use native.Mathlib.Nat.{eq-or-lt-of-le}
 use native.Mathlib.Decide.{decLt, ℕ-discrete}
-use borrow.Author.Tests.{ltb-true, ltb-false, eqb-true, eqb-false}
+use borrow.Author.Tests.{ltb-true, ltb-false, eqb-true}
 use lib.ListN.{length, getD, take}
 use lib.Seq.{take-all}
-use lib.Dec.{ltb, eqb}
+use lib.Dec.{ltb}
+use Rattle.lists.proofs.Flags.{true-false}
+use Rattle.lists.proofs.Ties.{rising, tied-says}
 use Rattle.try_place.specs.declared.choice.Ranked.{Ranked}
 use Rattle.bin_section.specs.declared.section.BinSection.{BinSection}
-use Rattle.try_place.specs.Choice.{betterOf, laterOf, bestOf, zeroRanked, ranksOf, chosen}
-use Rattle.try_place.specs.Choice.{Under, NotOver, IsChoice}
-use Rattle.try_place.proofs.Choosing.{better-less, better-tie, better-more, later-first, later-second, best-one, best-more}
+use Rattle.try_place.specs.Choice.{betterOf, laterOf, bestOf, zeroRanked, ranksOf, chosen, Under, NotOver, IsChoice}
+use Rattle.try_place.proofs.Choosing.{better-less, better-tie, later-first, later-second, best-one, best-more}
+
+abbrev bySecond : Ranked → Ranked → Bool
+bySecond a b = ltb (a .second) (b .second)
 
 -- the test and its two meanings
 module _ (a b : Ranked) where
   under : betterOf a b ≡ true → Under a b
-  unfolding Under NotOver
-  under h = elim (decLt (a .least) (b .least)) [
-    | yes l ↦ inl l
-    | no g ↦ elim (ℕ-discrete (a .least) (b .least)) [
-      | yes e ↦ inr (e, ltb-true _ _ (sym (better-tie a b e) ∙ h))
-      | no n ↦ absurd (true-false (sym h ∙ better-more a b (omega arith) n))
-    ]
-  ]
-    where
-      true-false : true ≡ false → ⊥
-      true-false e = let z : _≡_ {A = ℕ} 0 1 = cc in omega arith
+  unfolding Under betterOf
+  under h = ⊎-elim (λ p. inl (ltb-true _ _ p)) (λ p. inr (eqb-true _ _ (p .0), ltb-true _ _ (p .1))) (tied-says (rising (λ k. k .least)) bySecond a b h)
 
   not-over : betterOf a b ≡ false → NotOver b a
-  unfolding Under NotOver
-  not-over h = elim (decLt (b .least) (a .least)) [
-    | yes l ↦ inl l
-    | no g ↦ elim (ℕ-discrete (a .least) (b .least)) [
-      | yes e ↦ inr (sym e, ltb-false _ _ (sym (better-tie a b e) ∙ h))
-      | no n ↦ absurd (true-false (sym (better-less a b (omega arith)) ∙ h))
-    ]
-  ]
-    where
-      true-false : true ≡ false → ⊥
-      true-false e = let z : _≡_ {A = ℕ} 0 1 = cc in omega arith
+  unfolding NotOver
+  not-over h =
+      elim (decLt (b .least) (a .least)) [
+        | yes l ↦ inl l
+        | no g ↦ elim (ℕ-discrete (a .least) (b .least)) [
+          | yes e ↦ inr (sym e, ltb-false _ _ (sym (better-tie a b e) ∙ h))
+          | no n ↦ absurd (true-false (sym (better-less a b (omega arith)) ∙ h))
+        ]
+      ]
 
   weaken : Under a b → NotOver a b
   unfolding Under NotOver

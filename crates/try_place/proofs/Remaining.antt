@@ -43,7 +43,7 @@ row-within s r (suc (suc (suc (suc zero)))) f h = omega arith
 row-within s r (suc (suc (suc (suc (suc zero))))) f h = omega arith
 row-within s r (suc (suc (suc (suc (suc (suc k)))))) f h = absurd (omega arith)
 
-row-long : (s : BinSection) (r : RectToInsert) (k : ℕ) → k < 6 → length (getD (sixSplits s r) k []) ≡ 3
+pub row-long : (s : BinSection) (r : RectToInsert) (k : ℕ) → k < 6 → length (getD (sixSplits s r) k []) ≡ 3
 unfolding sixSplits
 row-long s r zero h = refl
 row-long s r (suc zero) h = refl
@@ -54,10 +54,10 @@ row-long s r (suc (suc (suc (suc (suc zero))))) h = refl
 row-long s r (suc (suc (suc (suc (suc (suc k)))))) h = absurd (omega arith)
 
 pub within-reachable : (s b : BinSection) → Reachable s → Within s b → Reachable b
-within-reachable s b p w = record { x-end = omega arith; y-end = omega arith; z-end = omega arith }
+within-reachable s b p w = omega arith
 
-pub within-small : (s b : BinSection) → Reachable s → Within s b → Small (b .whd)
-within-small s b p w = record { width-small = omega arith; height-small = omega arith; depth-small = omega arith }
+within-small : (s b : BinSection) → Reachable s → Within s b → Small (b .whd)
+within-small s b p w = omega arith
 
 pub fitting : (s : BinSection) (r : RectToInsert) → Reachable s → AllPass (fitChecks s r) → Fitting s r
 unfolding fitChecks
@@ -87,9 +87,4 @@ module _ (s : BinSection) (r : RectToInsert) (l : PackedLocation) (p : Reachable
   placed-three = rw (ap (λ (t : Tried). t .sections) placed-is) (row-long s r (chosen (sixSplits s r)) (chosen-below (sixSplits s r)))
 
   pub placed-small : SmallBoxes (fitOf s r .sections)
-  placed-small =
-      record {
-        first = within-small s _ p (placed-within .first);
-        second = within-small s _ p (placed-within .second);
-        third = within-small s _ p (placed-within .third);
-      }
+  placed-small = let w = placed-within in omega arith

@@ -1,42 +1,46 @@
--- What a section and a rectangle that pass the checks of a try have.
-use Prim.Native.Nat.{ℕ, _≤_, _+_}
+-- What a section and a rectangle that pass the checks of a try have, and when a section fits.
+use Prim.Native.Nat.{ℕ, _≤_, _<_}
 use mathlib.Core.Path.{_≡_}
-use mathlib.Core.Bool.{true, _&&_}
+use mathlib.Core.Logic.{_⊎_, inl, inr}
+use mathlib.Core.Bool.{true}
 use native.Mathlib.Omega.{arith}
-use borrow.Author.Tests.{leb-true}
-use lib.Dec.{leb}
+use native.Mathlib.Decide.{decLt}
+use borrow.Author.Tests.{lt-ltb, le-ltb, leb-true}
 use Rattle.lists.proofs.Flags.{and-first, and-second}
+use Rattle.replies.specs.Replies.{inOrder}
 use Rattle.bin_section.specs.declared.rect_to_insert.RectToInsert.{RectToInsert}
 use Rattle.bin_section.specs.declared.section.BinSection.{BinSection}
-use Rattle.bin_section.specs.Sides.{sideOk}
+use Rattle.try_place.specs.declared.packed_location.PackedLocation.{PackedLocation}
 use Rattle.try_place.specs.Splits.{Fitting, sixSplits}
 use Rattle.try_place.specs.Choice.{SmallSplits}
-use Rattle.try_place.specs.Try.{spanOk, sectionOk, Reachable}
-
-span-end : (o s : ℕ) → spanOk o s ≡ true → o + s ≤ 65535
-unfolding spanOk
-span-end o s h = leb-true _ _ (and-second (sideOk s) (leb (o + s) 65535) h)
+use Rattle.try_place.specs.Try.{spanOk, sectionOk, Reachable, placedOf, fitChecks, fitOf, Fits, onPlaced}
+use Rattle.try_place.proofs.Refusing.{fit-placed}
 
 pub small-splits : (s : BinSection) (r : RectToInsert) → Fitting s r → SmallSplits (sixSplits s r)
 unfolding sixSplits
 small-splits s r h =
-    record {
-      at0 = omega arith;
-      at1 = omega arith;
-      at2 = omega arith;
-      at3 = omega arith;
-      at4 = omega arith;
-      at5 = omega arith;
-    }
+    record { at0 = omega arith; at1 = omega arith; at2 = omega arith; at3 = omega arith; at4 = omega arith; at5 = omega arith }
 
 pub reachable : (s : BinSection) → sectionOk s ≡ true → Reachable s
-reachable s a =
-    let ox = spanOk (s .x) (s .whd .width) in
-    let oy = spanOk (s .y) (s .whd .height) in
-    let oz = spanOk (s .z) (s .whd .depth) in
-    let yz = and-second ox (oy && oz) a in
-    record {
-      x-end = span-end _ _ (and-first ox (oy && oz) a);
-      y-end = span-end _ _ (and-first oy oz yz);
-      z-end = span-end _ _ (and-second oy oz yz);
-    }
+unfolding spanOk
+reachable s a = search (and-first, and-second, leb-true)
+
+module _ (s : BinSection) (r : RectToInsert) where
+  pub fit-is : Fits s r → fitOf s r ≡ placedOf s r
+  unfolding fitChecks
+  fit-is f = fit-placed s r (le-ltb _ _ (f .width-fits), (le-ltb _ _ (f .height-fits), (le-ltb _ _ (f .depth-fits), tt)))
+
+  -- the section fits and takes the rectangle, or it does not and the answer is a refusal
+  pub fit-or-not : (A : Type 0) → (Fits s r × (fitOf s r ≡ placedOf s r)) ⊎ ((Fits s r → ⊥) × ((f : PackedLocation → A) (e : A) → onPlaced (fitOf s r .answer) f e ≡ e))
+  unfolding fitOf fitChecks inOrder
+  fit-or-not A =
+      elim (decLt (s .whd .width) (r .whd .width)) [
+        | yes w ↦ inr (λ f. omega arith, λ f e. rw (lt-ltb _ _ w))
+        | no w ↦ let w′ : r .whd .width ≤ s .whd .width = omega arith in elim (decLt (s .whd .height) (r .whd .height)) [
+          | yes h ↦ inr (λ f. omega arith, λ f e. rw (le-ltb _ _ w′, lt-ltb _ _ h))
+          | no h ↦ let h′ : r .whd .height ≤ s .whd .height = omega arith in elim (decLt (s .whd .depth) (r .whd .depth)) [
+            | yes d ↦ inr (λ f. omega arith, λ f e. rw (le-ltb _ _ w′, le-ltb _ _ h′, lt-ltb _ _ d))
+            | no d ↦ let f : Fits s r = omega arith in inl (f, fit-is f)
+          ]
+        ]
+      ]

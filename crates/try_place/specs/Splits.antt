@@ -1,5 +1,5 @@
 -- "The six splits"
-use Prim.Native.Nat.{ℕ, _+_, _-_, _≤_}
+use Prim.Native.Nat.{_+_, _-_, _≤_}
 use mathlib.Core.List.{List, [], _∷_}
 use Rattle.bin_section.specs.declared.width_height_depth.WidthHeightDepth.{WidthHeightDepth}
 use Rattle.bin_section.specs.declared.rect_to_insert.RectToInsert.{RectToInsert}

@@ -54,6 +54,12 @@ fitChecks s r =
 unfoldable pub fitOf : BinSection → RectToInsert → Tried
 fitOf s r = inOrder (fitChecks s r) (λ a. refusedOf a) (placedOf s r)
 
+-- a section fits a rectangle that is not "wider, taller, deeper than the section"
+pub record Fits (s : BinSection) (r : RectToInsert) : Type 0 where
+  pub width-fits : r .whd .width ≤ s .whd .width
+  pub height-fits : r .whd .height ≤ s .whd .height
+  pub depth-fits : r .whd .depth ≤ s .whd .depth
+
 -- "Try: 3 (..), 4, 12, 13, 14."
 unfoldable pub tryChecks : BinSection → RectToInsert → List (Check TryAnswer)
 tryChecks s r = once BadSection (not (sectionOk s)) ∷ once BadRectangle (not (sidesOk (r .whd))) ∷ fitChecks s r

@@ -34,7 +34,7 @@ loop-again : it.Tie.Need-loop-again Inv-loop μ-loop
 loop-again c = let l = c .before .before .before .before .before in (l .loop .inv .0, tried-more _ _ _ _ _ (l .loop .inv .1) (c .before .before .before .before .loop-test .taken) (found (c .before)) (c .match .keys2))
 
 replace-requires : it.Tie.Need-replace-requires Inv-loop μ-loop
-replace-requires c κs = let a = c .before .before .before in let t = a .before .before in let l = t .before .before .before .before in let st = l .before .before in (omega (arith, ap length (l .loop .inv .0), st .pre .0), omega (arith, l .loop .inv .1 .most), small-of _ _ _ _ (st .pre .1 .at (l .loop .i - 1) (omega (arith, l .loop .inv .1 .most))) (found t) (a .answer .given .1))
+replace-requires c κs = let a = c .before .before .before in let t = a .before .before in let l = t .before .before .before .before in let st = l .before .before in (omega (arith, ap length (l .loop .inv .0), st .pre .0), omega (arith, l .loop .inv .1 .most), small-of _ _ _ _ (found t) (a .answer .given .1) (st .pre .1 .at (l .loop .i - 1) (omega (arith, l .loop .inv .1 .most))))
 
 returns : it.Tie.Need-returns Inv-loop μ-loop
 returns c = let r = c .before .before in let a = r .before .before .before .before in let t = a .before .before in let l = t .before .before .before .before in let st = l .before .before in placed-here _ _ _ (st .pre .1) _ (l .loop .inv .1) _ _ _ _ (t .before .before .before .loop-test .taken) (found t) (a .answer .given .1) (rw (l .loop .inv .0) at (r .replace .ensures))

@@ -13,7 +13,7 @@ loop-holds : it.Tie.Need-loop-holds Inv-loop μ-loop
 loop-holds c = let s = c .before .before .before .before .before .before .before .before in (running-none _ _ _ _ _ (s .pre .0) (s .pre .1), refl, refl, refl)
 
 pack-next-requires : it.Tie.Need-pack-next-requires Inv-loop μ-loop
-pack-next-requires c κs = let l = c .before .before .before .before .before .before .before in let s = l .before .before .before .before .before .before .before .before .before in let h = c .before .before .before .before .before .before .loop-test .taken in (next-ready _ _ _ _ _ _ _ _ _ (s .pre .5) (s .pre .4) _ _ _ _ (l .loop .inv .0) h, s .pre .5 .below _ h, s .pre .2 .long, omega (arith, l .loop .inv .0 .long, s .pre .3), indices-still _ _ _ _ _ _ _ _ _ _ _ (l .loop .inv .0) (s .pre .4) (s .pre .6), omega (arith, l .loop .inv .2, s .pre .8), l .loop .inv .3 ∙ s .pre .9)
+pack-next-requires c κs = let l = c .before .before .before .before .before .before .before in let s = l .before .before .before .before .before .before .before .before .before in let h = c .before .before .before .before .before .before .loop-test .taken in (next-ready _ _ _ _ _ _ _ _ _ (s .pre .5) (s .pre .4) _ _ _ _ (l .loop .inv .0) h, s .pre .5 .below _ h, s .pre .2 .long, omega (arith, l .loop .inv .0 .long, s .pre .3), indices-still _ _ _ _ _ _ _ _ _ (s .pre .5) (s .pre .4) _ _ _ _ (l .loop .inv .0) (s .pre .6), omega (arith, l .loop .inv .2, s .pre .8), l .loop .inv .3 ∙ s .pre .9)
 
 cast-new : it.Tie.Need-cast-new Inv-loop μ-loop
 cast-new c = let v = c .before .before .before .before .before .before .before .before .before .before .before in let l = v .before .before .before .before .before .before .before .before in let s = l .before .before .before .before .before .before .before .before .before in omega (arith, s .pre .5 .below (l .loop .g) (v .before .before .before .before .before .before .before .loop-test .taken), s .pre .2 .few)
@@ -25,7 +25,7 @@ loop-again : it.Tie.Need-loop-again Inv-loop μ-loop
 loop-again c = let v = c .before .before .before .before .before .before .before .before .before .before .before in let l = v .before .before .before .before .before .before .before .before in let s = l .before .before .before .before .before .before .before .before .before in (next-served _ _ _ _ _ _ _ _ _ (s .pre .5) (s .pre .4) _ _ _ _ (l .loop .inv .0) (v .before .before .before .before .before .before .before .loop-test .taken) _ _ _ _ (not-false _ (c .if1 .left)) (v .pack-next .ensures), search needs, search needs, search needs)
 
 returns-2 : it.Tie.Need-returns-2 Inv-loop μ-loop
-returns-2 c = let l = c .before .before in let s = l .before .before .before .before .before .before .before .before .before in running-end _ _ _ _ _ _ _ _ _ _ _ _ (s .pre .5) (l .loop .inv .0) (c .before .loop-test .left) (c .new2 .ensures)
+returns-2 c = let l = c .before .before in let s = l .before .before .before .before .before .before .before .before .before in running-end _ _ _ _ _ _ _ _ _ (s .pre .5) (s .pre .4) _ _ _ _ (l .loop .inv .0) _ (c .before .loop-test .left) (c .new2 .ensures)
 
 pub pack-groups-spec : {M : Type 1} → it.Statement.statement M
 pack-groups-spec =
