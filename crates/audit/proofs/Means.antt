@@ -15,14 +15,14 @@ use Rattle.bin_section.specs.declared.width_height_depth.WidthHeightDepth.{Widt
 use Rattle.bin_section.specs.declared.section.BinSection.{BinSection}
 use Rattle.replies.specs.declared.reply.Reply.{Reply}
 use Rattle.bin_section.specs.Sides.{volumeOf, sidesOk}
-use Rattle.bin_section.specs.Section.{wordsOf}
+use Rattle.bin_section.specs.Section.{sectionWords}
 use Rattle.replies.specs.Replies.{reply}
 use Rattle.bin_section.specs.Inside.{outside}
 use Rattle.bin_section.proofs.Bounding.{not-outside→inside, inside→not-outside, outside→not-inside, not-inside→outside}
 use Rattle.cells.specs.Whole.{boxAt, AllInside, Apart, Whole, volumes}
 use Rattle.cells.proofs.Counting.{volumes-fit, sum→whole, less→gap, whole-filled, whole-no-gap}
 use Rattle.sections.specs.Inside.{sharesEarlier}
-use Rattle.audit.specs.Audit.{auditBoxes, lengthsOk, auditReply, shownOf, auditOf}
+use Rattle.audit.specs.Audit.{auditBoxes, boxListsOk, auditReply, shownOf, auditOf}
 use Rattle.audit.specs.Meaning.{Given, FirstOutside, FirstShared, CellInNoBox, AuditMeans}
 use Rattle.audit.proofs.Tests.{none-inside, inside-none, not-shares→apart, apart→not-shares, shares→some, some→shares}
 use Rattle.audit.proofs.TwoLists.{words-box}
@@ -86,7 +86,7 @@ data Found (whd : WidthHeightDepth) (boxes : List BinSection) (r : Reply) : Type
   found-gap : r ≡ reply 18 0 → CellInNoBox whd boxes → Found whd boxes r
   found-whole : r ≡ reply 0 0 → Whole whd boxes → Found whd boxes r
 
-module _ (whd : WidthHeightDepth) (placed free : List ℕ) (a : lengthsOk (length placed) (length free) ≡ true) (b : sidesOk whd ≡ true) where
+module _ (whd : WidthHeightDepth) (placed free : List ℕ) (a : boxListsOk (length placed) (length free) ≡ true) (b : sidesOk whd ≡ true) where
   abbrev boxes : List BinSection
   boxes = auditBoxes placed free
 
@@ -191,9 +191,9 @@ module _ (whd : WidthHeightDepth) (boxes : List BinSection) (r : Reply) where
 
 pub audit-means :
     (whd : WidthHeightDepth) (placed free : List ℕ)
-    → lengthsOk (length placed) (length free) ≡ true
+    → boxListsOk (length placed) (length free) ≡ true
     → sidesOk whd ≡ true
-    → AuditMeans whd (auditBoxes placed free) (auditOf whd placed free .answer)
+    → AuditMeans whd (auditBoxes placed free) (auditOf whd placed free .reply)
 unfolding auditOf r
 audit-means whd placed free a b =
     let boxes = auditBoxes placed free in
@@ -210,9 +210,9 @@ audit-means whd placed free a b =
 -- with 16 or 17 the words shown are those of the box that the detail names
 pub audit-shows :
     (whd : WidthHeightDepth) (placed free : List ℕ) (n i : ℕ)
-    → auditOf whd placed free .answer ≡ reply n i
+    → auditOf whd placed free .reply ≡ reply n i
     → (n ≡ 16) ⊎ (n ≡ 17)
-    → auditOf whd placed free .shown ≡ wordsOf (boxAt (auditBoxes placed free) i)
+    → auditOf whd placed free .shown ≡ sectionWords (boxAt (auditBoxes placed free) i)
 unfolding auditOf shownOf
 audit-shows whd placed free n i e which =
     let named = names which in

@@ -18,7 +18,7 @@ use Rattle.replies.specs.Replies.{reply, inOrder}
 use Rattle.bin_section.specs.Inside.{outside}
 use Rattle.cells.specs.Whole.{boxAt, volumes}
 use Rattle.sections.specs.Inside.{sharesEarlier}
-use Rattle.audit.specs.Audit.{auditBoxes, lengthsOk, auditReply, shownOf, Audited, audited, auditOf}
+use Rattle.audit.specs.Audit.{auditBoxes, boxListsOk, auditReply, shownOf, Audited, audited, auditOf}
 use Rattle.audit.proofs.TwoLists.{boxes-length}
 
 -- what lengths that pass check 1 have
@@ -27,8 +27,8 @@ pub record Lengths (placed free : ℕ) : Type 0 where
   pub free-whole : free % 6 ≡ 0
   pub few : placed / 6 + free / 6 ≤ 1024
 
-pub lengths : (placed free : ℕ) → lengthsOk placed free ≡ true → Lengths placed free
-unfolding lengthsOk
+pub lengths : (placed free : ℕ) → boxListsOk placed free ≡ true → Lengths placed free
+unfolding boxListsOk
 lengths placed free h =
     let p = eqb (placed % 6) 0 in
     let f = eqb (free % 6) 0 in
@@ -51,11 +51,11 @@ module _ (whd : WidthHeightDepth) (placed free : List ℕ) where
   abbrev boxes : List BinSection
   boxes = auditBoxes placed free
 
-  pub reply-length : lengthsOk (length placed) (length free) ≡ false → reply 1 0 ≡ auditReply whd placed free
+  pub reply-length : boxListsOk (length placed) (length free) ≡ false → reply 1 0 ≡ auditReply whd placed free
   unfolding auditReply inOrder
   reply-length a = rw a
 
-  module _ (a : lengthsOk (length placed) (length free) ≡ true) where
+  module _ (a : boxListsOk (length placed) (length free) ≡ true) where
     pub reply-chamber : sidesOk whd ≡ false → reply 2 0 ≡ auditReply whd placed free
     unfolding auditReply inOrder
     reply-chamber b = rw (a, b)
@@ -106,7 +106,7 @@ module _ (whd : WidthHeightDepth) (placed free : List ℕ) (r : Reply) (e : r �
   pub named-box : namesBox r ≡ true → (length placed % 6 ≡ 0) × (r .detail < length placed / 6 + length free / 6)
   unfolding auditReply inOrder
   named-box h =
-      go (ordered-named (not (lengthsOk (length placed) (length free))) (not (sidesOk whd))
+      go (ordered-named (not (boxListsOk (length placed) (length free))) (not (sidesOk whd))
       (ltb (firstOutside whd both) (length both)) (ltb (firstShared both) (length both))
       (not (eqb (volumes both) (volumeOf whd))) (firstOutside whd both) (firstShared both) (rw e at h))
     where
@@ -114,7 +114,7 @@ module _ (whd : WidthHeightDepth) (placed free : List ℕ) (r : Reply) (e : r �
       below i l d = omega (arith, ltb-true i (length both) l, boxes-length placed free)
 
       go :
-          (not (lengthsOk (length placed) (length free)) ≡ false)
+          (not (boxListsOk (length placed) (length free)) ≡ false)
           × (((ltb (firstOutside whd both) (length both) ≡ true) × (auditReply whd placed free .detail ≡ firstOutside whd both))
           ⊎ ((ltb (firstShared both) (length both) ≡ true) × (auditReply whd placed free .detail ≡ firstShared both)))
           → (length placed % 6 ≡ 0) × (r .detail < length placed / 6 + length free / 6)
@@ -132,4 +132,4 @@ module _ (whd : WidthHeightDepth) (placed free : List ℕ) (r : Reply) (e : r �
 -- the reply of an audit, without the words that it shows
 pub answer-of : (whd : WidthHeightDepth) (placed free shown : List ℕ) (r : Reply) → audited r shown ≡ auditOf whd placed free → r ≡ auditReply whd placed free
 unfolding auditOf
-answer-of whd placed free shown r e = ap (λ (a : Audited). a .answer) e
+answer-of whd placed free shown r e = ap (λ (a : Audited). a .reply) e

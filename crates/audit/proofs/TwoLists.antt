@@ -14,7 +14,7 @@ use Rattle.lists.proofs.Lowests.{lowest-first, lowest-second, any-same, any-par
 use Rattle.bin_section.specs.declared.width_height_depth.WidthHeightDepth.{WidthHeightDepth}
 use Rattle.bin_section.specs.declared.section.BinSection.{BinSection}
 use Rattle.bin_section.specs.Sides.{Small}
-use Rattle.bin_section.specs.Section.{sectionAt, zeroSection, wordsOf}
+use Rattle.bin_section.specs.Section.{sectionAt, zeroSection, sectionWords}
 use Rattle.bin_section.specs.Overlap.{overlapsOf}
 use Rattle.cells.specs.Whole.{boxAt, Inside, AllInside, volumes}
 use Rattle.sections.specs.Sections.{sections}
@@ -68,17 +68,17 @@ module _ (placed free : List ℕ) where
       (ap (λ (l : List ℕ). take 6 l) (sym (drop-append-add placed free ((i - first) * 6))))
 
   -- they are the words of the box at the index
-  pub words-box : (i : ℕ) → length placed % 6 ≡ 0 → i < length placed / 6 + length free / 6 → take 6 (drop (i * 6) (placed ++ free)) ≡ wordsOf (boxAt boxes i)
+  pub words-box : (i : ℕ) → length placed % 6 ≡ 0 → i < length placed / 6 + length free / 6 → take 6 (drop (i * 6) (placed ++ free)) ≡ sectionWords (boxAt boxes i)
   words-box i whole h = go (decLt i (length placed / 6))
     where
-      go : Dec (i < length placed / 6) → take 6 (drop (i * 6) (placed ++ free)) ≡ wordsOf (boxAt boxes i)
-      go (yes l) = sym (words-placed i l) ∙ sym (section-layout .written-back placed i (omega arith)) ∙ ap wordsOf (sym (box-placed i l))
+      go : Dec (i < length placed / 6) → take 6 (drop (i * 6) (placed ++ free)) ≡ sectionWords (boxAt boxes i)
+      go (yes l) = sym (words-placed i l) ∙ sym (section-layout .written-back placed i (omega arith)) ∙ ap sectionWords (sym (box-placed i l))
       go (no l) =
           let k = i - length placed / 6 in
           let e : length placed / 6 + k ≡ i = omega arith in
           sym (words-free i (length placed / 6) whole refl (omega arith))
           ∙ sym (section-layout .written-back free k (omega arith))
-          ∙ ap wordsOf (sym (box-free k (omega arith)) ∙ ap (λ (n : ℕ). boxAt boxes n) e)
+          ∙ ap sectionWords (sym (box-free k (omega arith)) ∙ ap (λ (n : ℕ). boxAt boxes n) e)
 
   -- ---- a search through both lists; `first` is how many boxes the placed one has
 

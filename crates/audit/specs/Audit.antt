@@ -23,14 +23,14 @@ unfoldable pub auditBoxes : List ℕ → List ℕ → List BinSection
 auditBoxes placed free = boxesOf placed ++ boxesOf free
 
 -- "at most 1,024 boxes together, 6 words each", of the lengths of the two lists
-unfoldable pub lengthsOk : ℕ → ℕ → Bool
-lengthsOk placed free = eqb (placed % 6) 0 && (eqb (free % 6) 0 && leb (placed / 6 + free / 6) 1024)
+unfoldable pub boxListsOk : ℕ → ℕ → Bool
+boxListsOk placed free = eqb (placed % 6) 0 && (eqb (free % 6) 0 && leb (placed / 6 + free / 6) 1024)
 
 -- "Audit: 1, 2 (sides of its one chamber), 16, 17, 18". Where neither 16 nor 17 is given, a cell is in no box exactly when
 -- the volumes do not sum to the chamber's: `Meaning` says what each reply means in cells.
 abbrev pub auditChecks : WidthHeightDepth → List ℕ → List ℕ → List BinSection → List (Check Reply)
 auditChecks whd placed free boxes =
-    once (reply 1 0) (not (lengthsOk (length placed) (length free)))
+    once (reply 1 0) (not (boxListsOk (length placed) (length free)))
     ∷ once (reply 2 0) (not (sidesOk whd))
     -- "a box has a zero side or reaches past the chamber"
     ∷ each (reply 16) (length boxes) (λ i. outside whd (boxAt boxes i))
@@ -47,11 +47,11 @@ shownOf placed free r =
     cond (eqb (r .number) 16 || eqb (r .number) 17) (take 6 (drop (r .detail * 6) (placed ++ free))) []
 
 pub record Audited : Type 0 where
-  pub answer : Reply
+  pub reply : Reply
   pub shown : List ℕ
 
 abbrev pub audited : Reply → List ℕ → Audited
-audited answer shown = record { answer = answer; shown = shown }
+audited answer shown = record { reply = answer; shown = shown }
 
 -- what the audit answers and shows, on every input
 unfoldable pub auditOf : WidthHeightDepth → List ℕ → List ℕ → Audited

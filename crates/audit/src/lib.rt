@@ -5,7 +5,7 @@ ghost use lib.ListN.{length, take, drop};
 ghost use mathlib.Core.List.{_++_};
 ghost use denote.Ref.{ptr};
 ghost use Rattle.replies.specs.Replies.{reply};
-ghost use Rattle.audit.specs.Audit.{lengthsOk, auditReply, audited, auditOf};
+ghost use Rattle.audit.specs.Audit.{boxListsOk, auditReply, audited, auditOf};
 ghost use Rattle.audit.specs.Place.{LiesAt, ShownAt};
 
 mod checks;
@@ -27,7 +27,7 @@ impl ChamberAudit {
 }
 
 fn lengths_ok(placed: &[u32], free: &[u32]) -> bool
-    ensures { λ r. ⌜ r ≡ lengthsOk (length (now (placed .entry))) (length (now (free .entry))) ⌝ }
+    ensures { λ r. ⌜ r ≡ boxListsOk (length (now (placed .entry))) (length (now (free .entry))) ⌝ }
 {
     (placed.len() % BinSection::WORDS == 0)
         & ((free.len() % BinSection::WORDS == 0)

@@ -14,7 +14,7 @@ use Rattle.bin_section.specs.declared.width_height_depth.WidthHeightDepth.{Widt
 use Rattle.replies.specs.declared.reply.Reply.{Reply}
 use Rattle.replies.specs.Replies.{reply}
 use Rattle.wire.proofs.Filling.{length-wordsIn}
-use Rattle.audit.specs.Audit.{lengthsOk, auditReply}
+use Rattle.audit.specs.Audit.{boxListsOk, auditReply}
 use Rattle.audit.proofs.Replying.{reply-length}
 use Rattle.box_input.specs.declared.InputHead.{InputHead}
 use Rattle.box_input.specs.declared.BoxInput.{BoxInput}
@@ -70,7 +70,7 @@ pub too-many :
     (b : List ℕ)
     → 1024 < inputPlacedCount b + inputFreeCount b
     → auditReply (inputChamber b) (inputPlaced b) (inputFree b) ≡ reply 1 0
-unfolding lengthsOk
+unfolding boxListsOk
 too-many b h =
     let p = length (inputPlaced b) in
     let f = length (inputFree b) in

@@ -8,9 +8,9 @@ use lib.ListN.{length, getD, take, drop}
 use Rattle.lists.specs.Tab.{tab}
 use Rattle.lists.proofs.Tabs.{middle}
 use Rattle.words.proofs.Records.{Layout}
-use Rattle.bin_section.specs.Section.{sectionAt, wordsOf}
+use Rattle.bin_section.specs.Section.{sectionAt, sectionWords}
 
-pub section-layout : Layout 6 sectionAt (λ s. wordsOf s)
+pub section-layout : Layout 6 sectionAt (λ s. sectionWords s)
 unfolding sectionAt tab
 section-layout =
     record {

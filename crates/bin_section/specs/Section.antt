@@ -23,5 +23,5 @@ sectionAt w i =
     section (getD w (i * 6) 0) (getD w (i * 6 + 1) 0) (getD w (i * 6 + 2) 0)
     (sides (getD w (i * 6 + 3) 0) (getD w (i * 6 + 4) 0) (getD w (i * 6 + 5) 0))
 
-abbrev pub wordsOf : BinSection → List ℕ
-wordsOf s = s .x ∷ s .y ∷ s .z ∷ s .whd .width ∷ s .whd .height ∷ s .whd .depth ∷ []
+abbrev pub sectionWords : BinSection → List ℕ
+sectionWords s = s .x ∷ s .y ∷ s .z ∷ s .whd .width ∷ s .whd .height ∷ s .whd .depth ∷ []

@@ -3,7 +3,7 @@ ghost use mathlib.Core.Path.{_≡_};
 ghost use Prim.Native.Nat.{_+_, _*_, _≤_};
 ghost use lib.ListN.{length};
 ghost use Rattle.lists.specs.Tab.{put};
-ghost use Rattle.bin_section.specs.Section.{section, wholeSection, zeroSection, sectionAt, wordsOf};
+ghost use Rattle.bin_section.specs.Section.{section, wholeSection, zeroSection, sectionAt, sectionWords};
 use crate::width_height_depth::WidthHeightDepth;
 use words::put_words;
 
@@ -58,7 +58,7 @@ impl BinSection {
     // Writes the section to index i of a list of six words each.
     pub fn write(self, words: &mut [u32], i: usize)
         requires { ⌜ i * 6 + 6 ≤ length (now words) ⌝ }
-        ensures { λ _. ⌜ now (words .exit) ≡ put (now (words .entry)) (i * 6) (wordsOf self) ⌝ }
+        ensures { λ _. ⌜ now (words .exit) ≡ put (now (words .entry)) (i * 6) (sectionWords self) ⌝ }
     {
         let at = i * BinSection::WORDS;
         put_words(

@@ -10,7 +10,7 @@ use Rattle.lists.specs.Tab.{put}
 use Rattle.lists.proofs.Fills.{front-put}
 use Rattle.lists.proofs.Tabs.{lent}
 use Rattle.bin_section.specs.declared.section.BinSection.{BinSection}
-use Rattle.bin_section.specs.Section.{zeroSection, wordsOf}
+use Rattle.bin_section.specs.Section.{zeroSection, sectionWords}
 use Rattle.try_place.specs.declared.packed_location.PackedLocation.{PackedLocation}
 use Rattle.try_place.specs.declared.Tried.{Tried}
 use Rattle.try_place.specs.Try.{locationOf}
@@ -29,15 +29,15 @@ written p w k h = ap (λ (l : List ℕ). p ++ l) (drop-of-length-le w h) ∙ app
 pub three-written :
     (w a b d : List ℕ) (three : List BinSection)
     → length w ≡ 18
-    → a ≡ put w 0 (wordsOf (getD three 0 zeroSection))
-    → b ≡ put a 6 (wordsOf (getD three 1 zeroSection))
-    → d ≡ put b 12 (wordsOf (getD three 2 zeroSection))
+    → a ≡ put w 0 (sectionWords (getD three 0 zeroSection))
+    → b ≡ put a 6 (sectionWords (getD three 1 zeroSection))
+    → d ≡ put b 12 (sectionWords (getD three 2 zeroSection))
     → d ≡ threeWords three
 unfolding threeWords
 three-written w a b d three long ea eb ed =
-    let right = wordsOf (getD three 0 zeroSection) in
-    let above = wordsOf (getD three 1 zeroSection) in
-    let behind = wordsOf (getD three 2 zeroSection) in
+    let right = sectionWords (getD three 0 zeroSection) in
+    let above = sectionWords (getD three 1 zeroSection) in
+    let behind = sectionWords (getD three 2 zeroSection) in
     let one : a ≡ right ++ drop 6 w = ea ∙ front-put [] right w 0 refl in
     let two : b ≡ (right ++ above) ++ drop 12 w = eb ∙ ap (λ (l : List ℕ). put l 6 above) one ∙ front-put right above w 6 refl in
     ed

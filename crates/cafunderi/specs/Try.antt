@@ -8,7 +8,7 @@ use Rattle.replies.specs.declared.reply.Reply.{Reply}
 use Rattle.bin_section.specs.declared.rect_to_insert.RectToInsert.{RectToInsert}
 use Rattle.bin_section.specs.declared.section.BinSection.{BinSection}
 use Rattle.replies.specs.Replies.{reply, once, inOrder}
-use Rattle.bin_section.specs.Section.{zeroSection, sectionAt, wordsOf}
+use Rattle.bin_section.specs.Section.{zeroSection, sectionAt, sectionWords}
 use Rattle.bin_section.specs.Sides.{sidesIn}
 use Rattle.try_place.specs.declared.packed_location.PackedLocation.{PackedLocation}
 use Rattle.try_place.specs.declared.Tried.{Tried}
@@ -29,18 +29,18 @@ locationWords l = l .x ∷ l .y ∷ l .z ∷ []
 -- "right, above, behind"
 unfoldable pub threeWords : List BinSection → List ℕ
 threeWords three =
-    wordsOf (getD three 0 zeroSection) ++ (wordsOf (getD three 1 zeroSection) ++ wordsOf (getD three 2 zeroSection))
+    sectionWords (getD three 0 zeroSection) ++ (sectionWords (getD three 1 zeroSection) ++ sectionWords (getD three 2 zeroSection))
 
 -- "21 words: location, then right, above, behind"
 unfoldable pub triedWords : Tried → List ℕ
 triedWords t = locationWords (locationOf (t .answer)) ++ threeWords (t .sections)
 
 pub record TryOutcome : Type 0 where
-  pub answer : Reply
+  pub reply : Reply
   pub placed : List ℕ
 
 abbrev pub tryOutcome : Reply → List ℕ → TryOutcome
-tryOutcome answer placed = record { answer = answer; placed = placed }
+tryOutcome answer placed = record { reply = answer; placed = placed }
 
 -- "A detail that isn't named .. is 0." "Try returns the location and the chosen three in the order right, above, behind",
 -- and "a refused try returns a zero location and zero sections".

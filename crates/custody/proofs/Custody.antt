@@ -13,17 +13,17 @@ use Rattle.replies.specs.declared.reply.Reply.{Reply}
 use Rattle.bin_section.specs.declared.section.BinSection.{BinSection}
 use Rattle.bin_section.specs.declared.width_height_depth.WidthHeightDepth.{WidthHeightDepth}
 use Rattle.bin_section.specs.Sides.{sideOk, sidesOk}
-use Rattle.bin_section.specs.Section.{wordsOf}
+use Rattle.bin_section.specs.Section.{sectionWords, zeroSection}
 use Rattle.replies.specs.Replies.{reply}
 use Rattle.cells.specs.Whole.{Whole}
 use Rattle.sections.specs.Sections.{sections, allWords}
-use Rattle.sections.proofs.Chunks.{length-joined}
+use Rattle.words.proofs.Records.{length-joined}
 use Rattle.sections.proofs.Reading.{length-sections, encoded, decoded}
 use Rattle.target_bin.specs.Chambers.{chamberAt, chamberCount}
 use Rattle.target_bin.specs.Store.{partAt, freeAt}
 use Rattle.target_bin.proofs.Parts.{length-partAt}
-use Rattle.target_bin.proofs.Passing.{InRange, SidesInRange}
-use Rattle.audit.specs.Audit.{boxesOf, auditBoxes, lengthsOk, shownOf, audited, auditOf}
+use Rattle.bin_section.proofs.Ranges.{InRange, SidesInRange}
+use Rattle.audit.specs.Audit.{boxesOf, auditBoxes, boxListsOk, shownOf, audited, auditOf}
 use Rattle.audit.proofs.Means.{audit-means}
 use Rattle.custody.specs.Run.{Hall, Run, fresh, packs, returns, begunWith, SameChambers, placedAt, freeCount, auditAt, AuditAccepts}
 use Rattle.custody.proofs.Between.{Good, same-then}
@@ -50,7 +50,7 @@ sides-ok whd h =
     (and-both (sideOk (whd .height)) (sideOk (whd .depth)) (side-ok _ (h .height-ok)) (side-ok _ (h .depth-ok)))
 
 words-long : (boxes : List BinSection) → length (allWords boxes) ≡ length boxes * 6
-words-long boxes = length-joined (λ s. wordsOf s) 6 boxes (λ s. refl)
+words-long boxes = length-joined (λ s. sectionWords s) 6 boxes zeroSection (λ i h. refl)
 
 -- the words of a list of boxes, read again
 boxes-again : (boxes : List BinSection) → boxesOf (allWords boxes) ≡ boxes
@@ -71,14 +71,14 @@ module _ (part : List ℕ) (n : ℕ) (fits : n * 6 ≤ length part) where
       ∙ decoded (sections part n) (take (n * 6) part) n (length-sections part n)
       (take-take (n * 6) (n * 6) part (omega arith) ∙ sym (encoded part n fits))
 
-lengths-ok : (p q a b : ℕ) → a ≡ p * 6 → b ≡ q * 6 → p + q ≤ 1024 → lengthsOk a b ≡ true
-unfolding lengthsOk
+lengths-ok : (p q a b : ℕ) → a ≡ p * 6 → b ≡ q * 6 → p + q ≤ 1024 → boxListsOk a b ≡ true
+unfolding boxListsOk
 lengths-ok p q a b ea eb h =
     and-both (eqb (a % 6) 0) (eqb (b % 6) 0 && leb (a / 6 + b / 6) 1024) (eq-eqb (a % 6) 0 (omega arith))
     (and-both (eqb (b % 6) 0) (leb (a / 6 + b / 6) 1024) (eq-eqb (b % 6) 0 (omega arith)) (le-leb (a / 6 + b / 6) 1024 (omega arith)))
 
 -- an audit that answers 0 shows nothing
-nothing-shown : (whd : WidthHeightDepth) (placed free : List ℕ) → auditOf whd placed free .answer ≡ reply 0 0 → auditOf whd placed free ≡ audited (reply 0 0) []
+nothing-shown : (whd : WidthHeightDepth) (placed free : List ℕ) → auditOf whd placed free .reply ≡ reply 0 0 → auditOf whd placed free ≡ audited (reply 0 0) []
 unfolding auditOf shownOf
 nothing-shown whd placed free e = ap (λ (a : Reply). audited a (shownOf placed free a)) e
 

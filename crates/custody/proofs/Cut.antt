@@ -14,7 +14,8 @@ use Rattle.bin_section.specs.declared.section.BinSection.{BinSection}
 use Rattle.bin_section.specs.Sides.{sides, volumeOf}
 use Rattle.bin_section.specs.Section.{section}
 use Rattle.cells.proofs.Grid.{has, has-cut-x, has-cut-y, has-cut-z, has-none}
-use Rattle.cells.proofs.Held.{held, held-append}
+use Rattle.lists.proofs.Totals.{total, total-append, total-permuted}
+use Rattle.cells.proofs.Held.{held}
 use Rattle.try_place.specs.Splits.{sixSplits}
 use Rattle.try_place.specs.Try.{Fits}
 use Rattle.packing_rules.specs.Appended.{larger, keptOne, kept, appendedOf}
@@ -31,8 +32,8 @@ module _ (x y z w h d s S cx cy cz : ℕ) where
   cut-z e = sym (ap (λ (t : ℕ). has (section x y z (sides w h t)) cx cy cz) e) ∙ has-cut-z x y z w h d s cx cy cz
 
 -- the rectangle where it is placed: at the section's origin
-abbrev pub placedBox : BinSection → RectToInsert → BinSection
-placedBox s r = section (s .x) (s .y) (s .z) (r .whd)
+abbrev pub cornerBox : BinSection → RectToInsert → BinSection
+cornerBox s r = section (s .x) (s .y) (s .z) (r .whd)
 
 module _ (s : BinSection) (r : RectToInsert) (f : Fits s r) (cx cy cz : ℕ) where
   abbrev X : ℕ
@@ -81,8 +82,8 @@ module _ (s : BinSection) (r : RectToInsert) (f : Fits s r) (cx cy cz : ℕ) whe
   onZ a b = cut-z X Y Z a b d (D - d) D cx cy cz ed
 
   -- each of the six: three cuts, one along each axis
-  pub row-cut : (k : ℕ) → k < 6 → has s cx cy cz ≡ has (placedBox s r) cx cy cz + held (getD (sixSplits s r) k []) cx cy cz
-  unfolding sixSplits held
+  pub row-cut : (k : ℕ) → k < 6 → has s cx cy cz ≡ has (cornerBox s r) cx cy cz + held (getD (sixSplits s r) k []) cx cy cz
+  unfolding sixSplits total
   row-cut zero l = omega (arith, onX H D, onY w D, onZ w h)
   row-cut (suc zero) l = omega (arith, onY W D, onX h D, onZ w h)
   row-cut (suc (suc zero)) l = omega (arith, onX H D, onZ w H, onY w d)
@@ -91,17 +92,10 @@ module _ (s : BinSection) (r : RectToInsert) (f : Fits s r) (cx cy cz : ℕ) whe
   row-cut (suc (suc (suc (suc (suc zero))))) l = omega (arith, onZ W H, onY W d, onX h d)
   row-cut (suc (suc (suc (suc (suc (suc k)))))) l = absurd (omega arith)
 
--- ---- the order plays no part, and boxes of no volume have no cell
-
-pub held-permuted : {xs ys : List BinSection} → Permuted xs ys → (cx cy cz : ℕ) → held xs cx cy cz ≡ held ys cx cy cz
-unfolding held
-held-permuted empty cx cy cz = refl
-held-permuted (keep {x} p) cx cy cz = ap (λ (n : ℕ). has x cx cy cz + n) (held-permuted p cx cy cz)
-held-permuted (swap {x} {y} {xs}) cx cy cz = omega arith
-held-permuted (chain p q) cx cy cz = held-permuted p cx cy cz ∙ held-permuted q cx cy cz
+-- ---- boxes of no volume have no cell
 
 held-kept-one : (b : BinSection) (cx cy cz : ℕ) → held (keptOne b) cx cy cz ≡ has b cx cy cz
-unfolding keptOne held
+unfolding keptOne total
 held-kept-one b cx cy cz = go (eqb (volumeOf (b .whd)) 0) refl
   where
     go : (t : Bool) → eqb (volumeOf (b .whd)) 0 ≡ t → held (cond t [] (b ∷ [])) cx cy cz ≡ has b cx cy cz
@@ -109,12 +103,12 @@ held-kept-one b cx cy cz = go (eqb (volumeOf (b .whd)) 0) refl
     go false e = omega arith
 
 held-kept : (bs : List BinSection) (cx cy cz : ℕ) → held (kept bs) cx cy cz ≡ held bs cx cy cz
-unfolding kept held
+unfolding kept total
 held-kept [] cx cy cz = refl
 held-kept (b ∷ bs) cx cy cz =
-    omega (arith, held-append (keptOne b) (kept bs) cx cy cz, held-kept-one b cx cy cz, held-kept bs cx cy cz)
+    omega (arith, total-append (λ b. has b cx cy cz) (keptOne b) (kept bs), held-kept-one b cx cy cz, held-kept bs cx cy cz)
 
 pub held-appended : (t : List BinSection) (cx cy cz : ℕ) → held (appendedOf t) cx cy cz ≡ held t cx cy cz
 unfolding appendedOf
 held-appended t cx cy cz =
-    held-kept (sortBy larger t) cx cy cz ∙ sym (held-permuted (sort-permuted larger t) cx cy cz)
+    held-kept (sortBy larger t) cx cy cz ∙ sym (total-permuted (λ b. has b cx cy cz) (sort-permuted larger t))

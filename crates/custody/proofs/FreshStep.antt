@@ -14,6 +14,7 @@ use Rattle.bin_section.specs.Section.{wholeSection}
 use Rattle.replies.specs.Replies.{Check, reply, once, inOrder}
 use Rattle.cells.specs.Whole.{Inside, Whole}
 use Rattle.cells.proofs.Grid.{has-le, has-in}
+use Rattle.lists.proofs.Totals.{total}
 use Rattle.cells.proofs.Held.{held, whole-held}
 use Rattle.cells.proofs.Insides.{inside-more, inside-none}
 use Rattle.target_bin.specs.declared.chamber.TargetBin.{TargetBin}
@@ -22,9 +23,9 @@ use Rattle.target_bin.specs.Store.{freeAt}
 use Rattle.target_bin.specs.Checks.{badShape, check1, check2Fresh}
 use Rattle.target_bin.specs.Outcome.{Outcome, outcome, refused}
 use Rattle.target_bin.specs.Fresh.{freshTable, freshStore, freshOf}
-use Rattle.replies.proofs.Ladders as ordering
+use Rattle.replies.proofs.Ladders.{AllPass, row-passes, past-all, no-fault}
 use Rattle.bin_section.proofs.Ranges.{SidesInRange}
-use Rattle.target_bin.proofs.Passing.{Lengths, lengths, ShapesSound, shapes-sound, no-fault}
+use Rattle.target_bin.proofs.Passing.{Lengths, lengths, ShapesSound, shapes-sound}
 use Rattle.target_bin.proofs.Tables.{getD-chambersOf}
 use Rattle.target_bin.proofs.Parts.{getD-freeOf}
 use Rattle.target_bin.proofs.Freshening.{wholeOf}
@@ -47,7 +48,7 @@ module _ (whd : WidthHeightDepth) (ok : SidesInRange whd) where
 
   -- one section that is the whole chamber
   pub one-whole : Whole whd (wholeSection whd ∷ [])
-  unfolding held
+  unfolding total
   one-whole =
       whole-held whd (wholeSection whd ∷ []) .1
       (record {
@@ -68,27 +69,16 @@ module _ (chambers store : List ℕ) (done : freshOf chambers store .reply .numb
   abbrev out : Outcome
   out = outcome (reply 0 0) (freshTable chambers) (freshStore chambers)
 
-  row-of : freshOf chambers store ≡ inOrder row (refused chambers store) out
+  all : AllPass row
   unfolding freshOf
-  row-of = refl
-
-  numbered : ordering.Numbered row
-  numbered = ordering.more (λ (e : _≡_ {A = ℕ} 1 0). omega arith) (ordering.more (λ (e : _≡_ {A = ℕ} 2 0). omega arith) ordering.none)
-
-  answers : ordering.answerOf row (reply 0 0) .number ≡ 0
-  answers =
-      sym (ap (λ (o : Outcome). o .reply .number) row-of ∙ ap (λ (r : Reply). r .number) (ordering.in-map (λ o. o .reply) (refused chambers store) out row))
-      ∙ done
+  all = row-passes (λ o. o .reply .number) (refused chambers store) out row (freshOf chambers store) refl refl done
 
   fresh-out : freshOf chambers store ≡ out
-  fresh-out = row-of ∙ ordering.alone-passes (refused chambers store) out (reply 0 0) row numbered answers
+  unfolding freshOf
+  fresh-out = past-all _ _ row all
 
   facts : Lengths chambers store × ShapesSound chambers
-  facts = go (ordering.all-pass row (reply 0 0) numbered answers)
-    where
-      go : ordering.AllPass row → Lengths chambers store × ShapesSound chambers
-      go (ordering.and p (ordering.and q ordering.no-more)) =
-          (lengths chambers store (not-false _ p), shapes-sound chambers (no-fault (chamberCount chambers) (badShape chambers) q))
+  facts = (lengths chambers store (not-false _ (all .0)), shapes-sound chambers (no-fault _ _ (all .1 .0)))
 
   fresh-free-at : (k : ℕ) → k < chamberCount chambers → freeAt (freshTable chambers) (freshStore chambers) k ≡ wholeOf (chamberAt chambers k)
   fresh-free-at k h =

@@ -1,65 +1,56 @@
 -- The ledger weighed: what a pack's records add, and what a return takes out.
-use Prim.Native.Nat.{ℕ, _+_, _*_, _<_}
+use Prim.Native.Nat.{ℕ, _+_, _<_}
 use mathlib.Core.Path.{_≡_, refl, sym, ap, _∙_}
-use mathlib.Core.List.{List, _∷_}
+use mathlib.Core.List.{List, _∷_, map}
 use mathlib.Core.Bool.{Bool, true, false, _&&_, cond}
-use native.Mathlib.Nat.{add-zero}
 use native.Mathlib.Omega.{arith}
 use borrow.Author.Tests.{eqb-true, eq-eqb}
 use lib.Dec.{eqb}
-use lib.ListN.{length, getD, drop}
-use lib.Seq.{getD-take, getD-drop}
+use lib.ListN.{length, getD, length-map, List·getD-map}
 use Rattle.lists.proofs.Flags.{cond-yes, and-both, and-first, and-second}
 use Rattle.lists.proofs.Sums.{sum-ext}
+use Rattle.words.proofs.Records.{at-joined}
 use Rattle.bin_section.specs.declared.section.BinSection.{BinSection}
 use Rattle.bin_section.specs.declared.width_height_depth.WidthHeightDepth.{WidthHeightDepth}
 use Rattle.bin_section.specs.Section.{section}
-use Rattle.sections.proofs.Chunks.{joined-part}
 use Rattle.grouped_rects_to_place.specs.Rect.{rectAt, rectCount}
+use Rattle.placement.specs.declared.Placement.{Placement}
+use Rattle.placement.specs.Placements.{noPlacement, placementWidth, placementAt, placementWords}
+use Rattle.placement.proofs.Layouts.{placement-layout}
 use Rattle.packing_rules.specs.Seats.{Seat, unplaced, seat}
-use Rattle.rectangle_pack.specs.Records.{seatWords, placementsOf}
-use Rattle.rectangle_pack.proofs.Tables.{seat-long}
-use Rattle.custody.specs.Ledger.{placedIn, boxOf, newBoxes, In, first, later, sameBox, takenOut}
-use Rattle.custody.proofs.Totals.{total, total-picked}
+use Rattle.rectangle_pack.specs.Records.{placementOf, placementsOf}
+use Rattle.custody.specs.Ledger.{placedIn, recordBox, newBoxes, In, first, later, sameBox, takenOut}
+use Rattle.lists.proofs.Totals.{total}
+use Rattle.custody.proofs.Totals.{total-boxes}
 use Rattle.custody.proofs.Seating.{seatWeight, seatTotal}
 
 -- ---- a pack
 
--- the words of a placement record
-word-at : (seats : List Seat) (i j : ℕ) → i < length seats → j < 5 → getD (placementsOf seats) (i * 5 + j) 0 ≡ getD (seatWords (getD seats i unplaced)) j 0
-word-at seats i j h l =
-    sym (getD-take 5 (drop (i * 5) (placementsOf seats)) j 0 l ∙ getD-drop (i * 5) (placementsOf seats) j 0)
-    ∙ ap (λ (w : List ℕ). getD w j 0) (joined-part seatWords 5 seats i unplaced (λ k b. seat-long (getD seats k unplaced)) h)
+placement-at : (seats : List Seat) (i : ℕ) → i < length seats → placementAt (placementsOf seats) i ≡ placementOf (getD seats i unplaced)
+placement-at seats i h =
+    at-joined placementWidth placementAt (λ p. placementWords p) placement-layout (map placementOf seats) i noPlacement (omega (arith, length-map seats placementOf))
+    ∙ List·getD-map placementOf seats i unplaced
 
-words-weigh :
-    (w : BinSection → ℕ) (id : ℕ) (whd : WidthHeightDepth) (s : Seat) (a b x y z : ℕ)
-    → a ≡ getD (seatWords s) 0 0
-    → b ≡ getD (seatWords s) 1 0
-    → x ≡ getD (seatWords s) 2 0
-    → y ≡ getD (seatWords s) 3 0
-    → z ≡ getD (seatWords s) 4 0
-    → cond (eqb a 1 && eqb b id) (w (section x y z whd)) 0 ≡ seatWeight w id whd s
+seat-weighs :
+    (w : BinSection → ℕ) (id : ℕ) (whd : WidthHeightDepth) (s : Seat) (p : Placement)
+    → p ≡ placementOf s
+    → cond (eqb (p .placed) 1 && eqb (p .chamber) id) (w (section (p .x) (p .y) (p .z) whd)) 0 ≡ seatWeight w id whd s
 unfolding seatWeight
-words-weigh w id whd unplaced a b x y z ea eb ex ey ez = rw ea refl
-words-weigh w id whd (seat at l) a b x y z ea eb ex ey ez = rw (ea, eb, ex, ey, ez) refl
+seat-weighs w id whd unplaced p e = rw e refl
+seat-weighs w id whd (seat at l) p e = rw e refl
 
 -- what an onlooker reads from the records is what the seats hold
 pub new-total :
     (w : BinSection → ℕ) (rects : List ℕ) (id : ℕ) (seats : List Seat)
     → length seats ≡ rectCount rects
     → total w (newBoxes rects (placementsOf seats) id) ≡ seatTotal w (rectAt rects) (rectCount rects) id seats
-unfolding newBoxes seatTotal placedIn boxOf
+unfolding newBoxes seatTotal placedIn recordBox
 new-total w rects id seats long =
-    total-picked w (boxOf rects (placementsOf seats)) (placedIn (placementsOf seats) id) (rectCount rects)
+    total-boxes w (recordBox rects (placementsOf seats)) (placedIn (placementsOf seats) id) (rectCount rects)
     ∙ sum-ext (rectCount rects)
-    (λ i. cond (placedIn (placementsOf seats) id i) (w (boxOf rects (placementsOf seats) i)) 0)
+    (λ i. cond (placedIn (placementsOf seats) id i) (w (recordBox rects (placementsOf seats) i)) 0)
     (λ i. seatWeight w id (rectAt rects i .whd) (getD seats i unplaced))
-    (λ i h. words-weigh w id (rectAt rects i .whd) (getD seats i unplaced) _ _ _ _ _
-    (ap (λ (p : ℕ). getD (placementsOf seats) p 0) (sym (add-zero (i * 5))) ∙ word-at seats i 0 (omega arith) (omega arith))
-    (word-at seats i 1 (omega arith) (omega arith))
-    (word-at seats i 2 (omega arith) (omega arith))
-    (word-at seats i 3 (omega arith) (omega arith))
-    (word-at seats i 4 (omega arith) (omega arith)))
+    (λ i h. seat-weighs w id (rectAt rects i .whd) (getD seats i unplaced) (placementAt (placementsOf seats) i) (placement-at seats i (omega arith)))
 
 -- ---- a return
 

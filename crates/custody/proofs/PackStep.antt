@@ -21,26 +21,26 @@ use Rattle.bin_section.specs.Sides.{sideOk, sidesOk, Small}
 use Rattle.replies.specs.Replies.{Check, reply, once, each, inOrder}
 use Rattle.cells.specs.Whole.{Whole}
 use Rattle.cells.proofs.Grid.{has}
-use Rattle.cells.proofs.Held.{held, held-append, whole-same}
+use Rattle.cells.proofs.Held.{held, whole-same}
 use Rattle.cells.proofs.Insides.{inside-first, inside-second, inside-both}
 use Rattle.target_bin.specs.declared.chamber.TargetBin.{TargetBin}
 use Rattle.target_bin.specs.Chambers.{chamberAt, chamberCount, tableOf}
 use Rattle.target_bin.specs.Store.{freeAt, freeOf, storeOf}
 use Rattle.target_bin.specs.Checks.{check1, check2, check3}
-use Rattle.replies.proofs.Ladders as ordering
-use Rattle.target_bin.proofs.Passing.{SidesInRange}
+use Rattle.replies.proofs.Ladders.{AllPass, answer-is}
+use Rattle.bin_section.proofs.Ranges.{SidesInRange}
 use Rattle.target_bin.proofs.Parts.{length-freeOf, getD-freeOf}
 use Rattle.grouped_rects_to_place.specs.declared.rect_to_place.RectToPlace.{RectToPlace}
 use Rattle.grouped_rects_to_place.specs.Rect.{rectAt, rectCount}
 use Rattle.grouped_rects_to_place.specs.Checks.{badRect, repeatedId}
 use Rattle.grouped_rects_to_place.specs.Groups.{groupsOf}
-use Rattle.packing_rules.specs.Order.{tried, trialOrder}
+use Rattle.packing_rules.specs.Order.{triedBefore, trialOrder}
 use Rattle.packing_rules.specs.Seats.{Seat, unplaced}
 use Rattle.rectangle_pack.specs.Records.{placementsOf}
 use Rattle.packing_rules.specs.Packing.{state, Ended, noRoom, start, packing}
 use Rattle.rectangle_pack.specs.Pack.{rectLengthsOk, rectChecks, packChecks, binsWith, PackOutcome, packOutcome, written, packOf}
 use Rattle.rectangle_pack.proofs.Checked.{no-bad, passed}
-use Rattle.rectangle_pack.proofs.Ending.{pack-refused, pack-done}
+use Rattle.rectangle_pack.proofs.Ending.{pack-refused, all-pass, pack-done}
 use Rattle.packing_rules.proofs.Room.{never-overflows}
 use Rattle.custody.specs.Ledger.{newBoxes, places, afterPack}
 use Rattle.custody.specs.Run.{Hall, hallOf, packed, SameChambers, placedAt}
@@ -50,19 +50,9 @@ use Rattle.custody.proofs.Ledgers.{new-total}
 use Rattle.custody.proofs.Packs.{Conserved, Finished, start-conserved, groups-conserved}
 use Rattle.custody.proofs.Placements.{Sided, each-inside, inside-each}
 use Rattle.custody.proofs.Seating.{seatTotal, Waiting}
-use Rattle.custody.proofs.Totals.{total, held-total, strays, all-inside}
+use Rattle.lists.proofs.Totals.{total, total-append}
+use Rattle.custody.proofs.Totals.{held-total, strays, all-inside}
 use Rattle.custody.proofs.Written.{written-count, written-at, written-free, written-sound}
-
--- ---- a row of checks whose numbers are below 7
-
-low-answer : {cs : List (Check Reply)} (r : Reply) → Each (λ c. c .answer .number < 7) cs → r .number < 7 → ordering.answerOf cs r .number < 7
-unfolding inOrder
-low-answer r none h = h
-low-answer r (also {x = c} {xs = cs} p ps) h = go (c .fires) (low-answer r ps h)
-  where
-    go : (t : Bool) → ordering.answerOf cs r .number < 7 → cond t (c .answer) (ordering.answerOf cs r) .number < 7
-    go true l = p
-    go false l = l
 
 -- ---- what the checks leave
 
@@ -91,7 +81,7 @@ not-full chambers n k h = le-ltb 128 (chamberAt chambers k .count + 2 * n) h
 
 order-low : (chambers : List ℕ) → Each (λ k. k < chamberCount chambers) (trialOrder chambers)
 unfolding trialOrder
-order-low chambers = sort-each (tried chambers) (each-tab (chamberCount chambers) (λ i. i) (λ i h. h))
+order-low chambers = sort-each (triedBefore chambers) (each-tab (chamberCount chambers) (λ i. i) (λ i h. h))
 
 all-waiting : (n : ℕ) {groups : List (List ℕ)} → Each (Each (λ i. i < n)) groups → Each (Each (Waiting n (replicate n unplaced))) groups
 all-waiting n gs = each-map (λ g is. each-map (λ i h. record { below = h; empty = getD-replicate n i unplaced unplaced h }) is) gs
@@ -120,14 +110,11 @@ module _ (f : Hall) (good : Good f) (rects placements : List ℕ) where
 
   -- the answer of the checks, 0 where all pass
   abbrev checked : Reply
-  checked = ordering.answerOf (packChecks c s rects placements) (reply 0 0)
+  checked = inOrder (packChecks c s rects placements) (λ a. a) (reply 0 0)
 
-  low : Each (λ x. x .answer .number < 7) (packChecks c s rects placements)
+  low : ltb (checked .number) 7 ≡ true
   unfolding packChecks rectChecks
-  low =
-      also {x = once (reply 1 0) (not (rectLengthsOk rects placements))} (omega arith) (also {x = check1 c s} (omega arith) (also {x = check2 c} (omega arith)
-      (also {x = check3 c s} (omega arith) (also {x = each (reply 4) n (badRect r)} (omega arith)
-      (also {x = each (reply 5) n (repeatedId r)} (omega arith) (also {x = each (reply 6) m (noRoom c n)} (omega arith) none))))))
+  low = answer-is (λ a. ltb (a .number) 7) (packChecks c s rects placements) (reply 0 0) refl refl
 
   -- ---- refused by a check
 
@@ -148,13 +135,13 @@ module _ (f : Hall) (good : Good f) (rects placements : List ℕ) where
   number-places a (inl e) = rw e refl
   number-places a (inr e) = rw e refl
 
-  written-is : written c (packing c s rects) ≡ packOutcome (packing c s rects .answer) (tableOf (binsWith c (packing c s rects .after .frees))) (storeOf (packing c s rects .after .frees)) (placementsOf (packing c s rects .after .seats))
+  written-is : written c (packing c s rects) ≡ packOutcome (packing c s rects .reply) (tableOf (binsWith c (packing c s rects .after .frees))) (storeOf (packing c s rects .after .frees)) (placementsOf (packing c s rects .after .seats))
   unfolding written
   written-is = refl
 
   -- ---- past the checks
 
-  module _ (pass : ordering.answerOf (packChecks c s rects placements) (reply 0 0) .number ≡ 0) where
+  module _ (pass : AllPass (packChecks c s rects placements)) where
     started : Conserved m n ids whds r (freeOf c s) (state (freeOf c s) (replicate n unplaced))
     started =
         start-conserved m n ids whds r (freeOf c s) index small sided (length-freeOf c s)
@@ -210,19 +197,19 @@ module _ (f : Hall) (good : Good f) (rects placements : List ℕ) where
         (λ cx cy cz b.
         omega (
           arith,
-          held-append (old ++ fresh) (getD frees k []) cx cy cz,
-          held-append old fresh cx cy cz,
-          held-append old (freeAt c s k) cx cy cz,
+          total-append (λ b. has b cx cy cz) (old ++ fresh) (getD frees k []),
+          total-append (λ b. has b cx cy cz) old fresh,
+          total-append (λ b. has b cx cy cz) old (freeAt c s k),
           held-total fresh cx cy cz,
           new-weight (λ b. has b cx cy cz) k,
           k₀ .cells k h cx cy cz,
           ap (λ (l : List BinSection). held l cx cy cz) (getD-freeOf c s k [] h),
         ))
 
-    placed-places : places (e .answer) ≡ true
-    placed-places = number-places (e .answer) (finished .number)
+    placed-places : places (e .reply) ≡ true
+    placed-places = number-places (e .reply) (finished .number)
 
-    written-good : Good (hallOf (tableOf (binsWith c frees)) (storeOf frees) (afterPack (e .answer) rects (placementsOf seats) (f .ledger)))
+    written-good : Good (hallOf (tableOf (binsWith c frees)) (storeOf frees) (afterPack (e .reply) rects (placementsOf seats) (f .ledger)))
     written-good =
         record {
           sound-tables = written-sound c s frees (good .sound-tables) (k₀ .frees-long) few (k₀ .free-in);
@@ -231,7 +218,7 @@ module _ (f : Hall) (good : Good f) (rects placements : List ℕ) where
               rw (
                 written-at c s frees (good .sound-tables) (k₀ .frees-long) few k h,
                 written-free c s frees (good .sound-tables) (k₀ .frees-long) few k h,
-                all-placed (e .answer) (ids k) (placementsOf seats) placed-places,
+                all-placed (e .reply) (ids k) (placementsOf seats) placed-places,
               )
               (whole-at k h);
         }
@@ -239,25 +226,27 @@ module _ (f : Hall) (good : Good f) (rects placements : List ℕ) where
   -- either way
   data Outcomes : Type 0 where
     unchanged : (a : Reply) → packOf c s rects placements ≡ packOutcome a c s placements → places a ≡ false → Outcomes
-    changed : ordering.answerOf (packChecks c s rects placements) (reply 0 0) .number ≡ 0 → packOf c s rects placements ≡ written c (packing c s rects) → Outcomes
+    changed : AllPass (packChecks c s rects placements) → packOf c s rects placements ≡ written c (packing c s rects) → Outcomes
 
   outcomes : Outcomes
   outcomes = go (ℕ-discrete (checked .number) 0)
     where
       go : Dec (checked .number ≡ 0) → Outcomes
       go (no ne) =
-          unchanged checked (sym (pack-refused c s rects placements checked refl ne)) (places-none checked ne (low-answer (reply 0 0) low (omega arith)))
-      go (yes z) = changed z (sym (pack-done c s rects placements checked refl z (written c (packing c s rects)) refl))
+          unchanged checked (sym (pack-refused c s rects placements checked refl ne)) (places-none checked ne (ltb-true _ _ low))
+      go (yes z) =
+          let p = all-pass c s rects placements checked refl z in
+          changed p (sym (pack-done c s rects placements (written c (packing c s rects)) p refl))
 
   pub pack-good : Good (packed f rects placements)
   pack-good = go outcomes
     where
       go : Outcomes → Good (packed f rects placements)
       go (unchanged a same no-places) =
-          subst (λ (o : PackOutcome). Good (hallOf (o .chambers) (o .store) (afterPack (o .answer) rects (o .placements) (f .ledger)))) (sym same)
+          subst (λ (o : PackOutcome). Good (hallOf (o .chambers) (o .store) (afterPack (o .reply) rects (o .placements) (f .ledger)))) (sym same)
           (good-ledger c s (f .ledger) (afterPack a rects placements (f .ledger)) (λ id. nothing-placed a id no-places) good)
       go (changed pass same) =
-          subst (λ (o : PackOutcome). Good (hallOf (o .chambers) (o .store) (afterPack (o .answer) rects (o .placements) (f .ledger)))) (sym (same ∙ written-is))
+          subst (λ (o : PackOutcome). Good (hallOf (o .chambers) (o .store) (afterPack (o .reply) rects (o .placements) (f .ledger)))) (sym (same ∙ written-is))
           (written-good pass)
 
   pub pack-same : SameChambers (f .chambers) (packOf (f .chambers) (f .store) rects placements .chambers)

@@ -28,10 +28,11 @@ use Rattle.try_place.specs.declared.packed_location.PackedLocation.{PackedLocat
 use Rattle.packing_rules.specs.Seats.{Seat, unplaced, seated}
 use Rattle.packing_rules.specs.Packing.{State, state, rectsAt, trialIn, isWhole, firstWhole, changedBy, changed, Ended, ended, packGroups}
 use Rattle.packing_rules.proofs.Placings.{group-placings}
-use Rattle.packing_rules.proofs.Room.{group-long, rects-long}
+use Rattle.packing_rules.proofs.Placings.{group-long}
 use Rattle.packing_rules.proofs.Seats.{length-seated}
 use Rattle.custody.proofs.Placements.{Sided, boxesAt, Kept, group-kept}
-use Rattle.custody.proofs.Totals.{total, held-total, strays, none-strays}
+use Rattle.lists.proofs.Totals.{total, total-append}
+use Rattle.custody.proofs.Totals.{held-total, strays, none-strays}
 use Rattle.custody.proofs.Seating.{seatWeight, seatTotal, no-weight, Waiting, Distinct, Disjoint, seated-here, seated-elsewhere, seated-others}
 
 -- the groups that have not been tried: all of them wait, and no rectangle stands twice
@@ -91,7 +92,7 @@ module _
     kept = group-kept (whds k) (small k low) (p .free-in k low) (group-sided (s .seats) ws) (group-placings (getD (s .frees) k []) (rectsAt r g) ls free′ placing)
 
     same-length : length ls ≡ length g
-    same-length = group-long (getD (s .frees) k []) (rectsAt r g) ls free′ placing ∙ rects-long r g
+    same-length = group-long r (getD (s .frees) k []) g ls free′ placing
 
     free-here : getD (set (s .frees) k free′) k [] ≡ free′
     free-here = getD-set-same (s .frees) k free′ [] (omega (arith, p .frees-long))
@@ -155,7 +156,7 @@ module _
 
   pub record Finished (e : Ended) : Type 0 where
     pub conserved : Conserved m n ids whds r frees₀ (e .after)
-    pub number : (e .answer .number ≡ 0) ⊎ (e .answer .number ≡ 7)
+    pub number : (e .reply .number ≡ 0) ⊎ (e .reply .number ≡ 7)
 
   pub groups-conserved :
       (order : List ℕ) (groups : List (List ℕ)) (s : State)

@@ -14,7 +14,8 @@ use Rattle.bin_section.specs.Sides.{Small}
 use Rattle.bin_section.specs.Section.{section, zeroSection}
 use Rattle.cells.specs.Whole.{Inside, AllInside}
 use Rattle.cells.proofs.Grid.{has}
-use Rattle.cells.proofs.Held.{held, held-append, held-removed}
+use Rattle.lists.proofs.Totals.{total, total-append, total-removed}
+use Rattle.cells.proofs.Held.{held}
 use Rattle.try_place.specs.declared.packed_location.PackedLocation.{PackedLocation}
 use Rattle.try_place.specs.declared.Tried.{Tried}
 use Rattle.try_place.specs.Splits.{sixSplits}
@@ -26,7 +27,7 @@ use Rattle.packing_rules.specs.Rules.{placed, placeOne}
 use Rattle.packing_rules.proofs.Left.{one-left, inside-reachable, inside-passes}
 use Rattle.packing_rules.proofs.Placings.{PlacedAt, placed-at, Placings, no-more, then}
 use Rattle.try_place.proofs.Trying.{fit-is}
-use Rattle.custody.proofs.Cut.{placedBox, row-cut, held-appended}
+use Rattle.custody.proofs.Cut.{cornerBox, row-cut, held-appended}
 
 -- a rectangle has no zero side
 pub record Sided (r : RectToInsert) : Type 0 where
@@ -63,7 +64,7 @@ module _ (whd : WidthHeightDepth) (small : Small whd) where
       → Sided r
       → placeOne free r ≡ placed l free′
       → Kept whd free (boxAtLocation l (r .whd) ∷ []) free′
-  unfolding held
+  unfolding total
   one-kept free r l free′ ins sided e = go (placed-at free r l free′ e)
     where
       go : (i : ℕ) × PlacedAt free r l free′ (length free) i → Kept whd free (boxAtLocation l (r .whd) ∷ []) free′
@@ -71,20 +72,20 @@ module _ (whd : WidthHeightDepth) (small : Small whd) where
           let s : BinSection = getD free i zeroSection in
           let q : Inside whd s = each-at ins i zeroSection (p .within) in
           let fits : Fits s r = p .fits in
-          let box : placedBox s r ≡ boxAtLocation l (r .whd) = ap (λ (m : PackedLocation). boxAtLocation m (r .whd)) (sym (p .here)) in
-          let in-box : Inside whd (placedBox s r) =
+          let box : cornerBox s r ≡ boxAtLocation l (r .whd) = ap (λ (m : PackedLocation). boxAtLocation m (r .whd)) (sym (p .here)) in
+          let in-box : Inside whd (cornerBox s r) =
           record { wide = sided .wide; tall = sided .tall; deep = sided .deep; right = omega arith; above = omega arith; behind = omega arith } in
           record {
             cells = λ cx cy cz.
                 omega (
                   arith,
                   ap (λ (f : List BinSection). held f cx cy cz) (p .left),
-                  held-append (removeAt i free) (appendedOf (fitOf s r .sections)) cx cy cz,
+                  total-append (λ b. has b cx cy cz) (removeAt i free) (appendedOf (fitOf s r .sections)),
                   held-appended (fitOf s r .sections) cx cy cz,
                   ap (λ (u : Tried). held (u .sections) cx cy cz) (fit-is s r fits),
                   row-cut s r fits cx cy cz (chosen (sixSplits s r)) (chosen-below (sixSplits s r)),
                   ap (λ (b : BinSection). has b cx cy cz) box,
-                  held-removed i free cx cy cz (p .within),
+                  total-removed (λ b. has b cx cy cz) i zeroSection free (p .within),
                 );
             placed-in = also {x = boxAtLocation l (r .whd)} (subst (λ (b : BinSection). Inside whd b) box in-box) none;
             free-in = one-left (Inside whd) (inside-reachable whd small) (inside-passes whd) free r l free′ e ins;
@@ -105,7 +106,7 @@ module _ (whd : WidthHeightDepth) (small : Small whd) where
       → Each Sided rs
       → Placings free rs ls free′
       → Kept whd free (boxesAt rs ls) free′
-  unfolding boxesAt held
+  unfolding boxesAt total
   group-kept ins sided (no-more {free}) =
       record { cells = λ cx cy cz. omega arith; placed-in = none; free-in = ins }
   group-kept ins (also s ss) (then {free} {mid} {free′} {r} {rs} {l} {ls} e p) =

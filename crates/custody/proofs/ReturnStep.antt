@@ -17,7 +17,7 @@ use Rattle.bin_section.specs.Sides.{sides}
 use Rattle.replies.specs.Replies.{reply}
 use Rattle.cells.specs.Whole.{Inside, Whole}
 use Rattle.cells.proofs.Grid.{has}
-use Rattle.cells.proofs.Held.{held, held-append, whole-same}
+use Rattle.cells.proofs.Held.{held, whole-same}
 use Rattle.cells.proofs.Insides.{inside-first, inside-second, inside-both, inside-more, inside-none}
 use Rattle.target_bin.specs.declared.chamber.TargetBin.{TargetBin}
 use Rattle.target_bin.specs.Chambers.{bin, chamberAt, chamberCount, chambersOf, chamberOf}
@@ -30,7 +30,8 @@ use Rattle.target_bin.proofs.ReturnModel.{Accepted, return-done, return-refusal
 use Rattle.custody.specs.Ledger.{In, first, later, takenOut, afterReturn}
 use Rattle.custody.specs.Run.{Hall, hallOf, takenBack, SameChambers}
 use Rattle.custody.proofs.Placements.{each-inside, inside-each}
-use Rattle.custody.proofs.Totals.{total, held-total, strays, none-strays, all-inside}
+use Rattle.lists.proofs.Totals.{total, total-append}
+use Rattle.custody.proofs.Totals.{held-total, strays, none-strays, all-inside}
 use Rattle.custody.proofs.Ledgers.{taken-total}
 use Rattle.custody.proofs.Between.{Good, good-ledger, same-chambers, one-index}
 
@@ -94,7 +95,7 @@ module _ (f : Hall) (good : Good f) (id : ℕ) (box : BinSection) (there : retur
 
     -- the box moves from the placed ones to the free ones
     moved-whole : (whd : WidthHeightDepth) (placed free : List BinSection) → In box placed → Whole whd (placed ++ free) → Whole whd (takenOut box placed ++ (free ++ (box ∷ [])))
-    unfolding held
+    unfolding total
     moved-whole whd placed free p w =
         let all = w .inside in
         let none-out : total (strays whd) placed ≡ 0 = none-strays whd (inside-each whd placed (inside-first whd placed free all)) in
@@ -107,9 +108,9 @@ module _ (f : Hall) (good : Good f) (id : ℕ) (box : BinSection) (there : retur
         (λ cx cy cz h.
         omega (
           arith,
-          held-append (takenOut box placed) (free ++ (box ∷ [])) cx cy cz,
-          held-append free (box ∷ []) cx cy cz,
-          held-append placed free cx cy cz,
+          total-append (λ b. has b cx cy cz) (takenOut box placed) (free ++ (box ∷ [])),
+          total-append (λ b. has b cx cy cz) free (box ∷ []),
+          total-append (λ b. has b cx cy cz) placed free,
           held-total placed cx cy cz,
           held-total (takenOut box placed) cx cy cz,
           taken-total (λ b. has b cx cy cz) box p,

@@ -19,7 +19,8 @@ use Rattle.grouped_rects_to_place.specs.declared.rect_to_place.RectToPlace.{Rec
 use Rattle.packing_rules.specs.Seats.{Seat, unplaced, seat, seated}
 use Rattle.packing_rules.specs.Packing.{rectsAt}
 use Rattle.custody.proofs.Placements.{boxAtLocation, boxesAt}
-use Rattle.custody.proofs.Totals.{total, sum-raised}
+use Rattle.lists.proofs.Totals.{total}
+use Rattle.lists.proofs.Sums.{sum-raised}
 
 -- what a seat weighs for a chamber id: its box, if it is one of that chamber's
 unfoldable pub seatWeight : (BinSection → ℕ) → ℕ → WidthHeightDepth → Seat → ℕ

@@ -15,12 +15,14 @@ use Rattle.bin_section.specs.Section.{section, sectionAt}
 use Rattle.bin_section.specs.Overlap.{spansMeet, overlapsOf}
 use Rattle.replies.specs.Replies.{reply, inOrder}
 use Rattle.cells.specs.Whole.{volumes}
-use Rattle.sections.specs.Sections.{sections, joined, allWords}
+use Rattle.words.specs.Words.{joined}
+use Rattle.sections.specs.Sections.{sections, allWords}
 use Rattle.sections.specs.Inside.{sharesEarlier}
 use Rattle.bin_section.specs.Inside.{spanInside, insideOf}
 use Rattle.try_place.specs.Splits.{sixSplits}
 use Rattle.try_place.specs.Choice.{chosen, ranksOf, bestOf, bestFrom, laterOf, betterOf}
-use Rattle.try_place.specs.Try.{fitOf}
+use Rattle.try_place.specs.Try.{fitChecks, fitOf}
+use Rattle.placement.specs.Placements.{placementAt}
 use Rattle.packing_rules.specs.Appended.{larger, keptOne, kept, appendedOf}
 use Rattle.target_bin.specs.Chambers.{chamberAt, chambersOf, chamberOf}
 use Rattle.target_bin.specs.Checks.{lengthsOk, idOk, shapeOk, chamberOk, badSections}
@@ -37,7 +39,7 @@ use Rattle.packing_rules.specs.Seats.{seated}
 use Rattle.packing_rules.specs.Packing.{rectsAt, trialIn, firstWhole, changed, packGroups, noRoom, start, packing}
 use Rattle.rectangle_pack.specs.Pack.{rectLengthsOk, rectChecks, packChecks, binsWith, PackOutcome, packOutcome, written, packOf}
 use Rattle.audit.specs.Audit as audit
-use Rattle.custody.specs.Ledger.{placedIn, boxOf, newBoxes, places, Ledger, nothing, afterPack, In, first, sameBox, takenOut, afterReturn}
+use Rattle.custody.specs.Ledger.{placedIn, recordBox, newBoxes, places, Ledger, nothing, afterPack, In, first, sameBox, takenOut, afterReturn}
 use Rattle.custody.specs.Run.{Hall, hallOf, Run, fresh, packs, returns, auditAt, AuditAccepts}
 use Rattle.custody.proofs.Custody.{custody}
 
@@ -133,20 +135,20 @@ record Jobs : Type 0 where
   -- the audit accepts the chamber at the end
   accepted : auditAt (hallOf (chamberWith 3) (partOf free₅) ledger₅) 0 ≡ audit.audited (reply 0 0) []
   -- with a box left out of the ledger it would find a gap, and with the returned box still in it a shared cell
-  left-out : audit.auditOf (sides 10 10 1) (allWords (box 0 0 0 4 6 1 ∷ [])) (allWords free₅) .answer ≡ reply 18 0
-  still-in : audit.auditOf (sides 10 10 1) (allWords (returnedBox ∷ ledger₅ 1)) (allWords free₅) .answer ≡ reply 17 1
+  left-out : audit.auditOf (sides 10 10 1) (allWords (box 0 0 0 4 6 1 ∷ [])) (allWords free₅) .reply ≡ reply 18 0
+  still-in : audit.auditOf (sides 10 10 1) (allWords (returnedBox ∷ ledger₅ 1)) (allWords free₅) .reply ≡ reply 17 1
 
 jobs : Jobs
 unfolding lowest anyBelow picked sumTo tab removeAt put sectionAt spansMeet overlapsOf inOrder sections joined spanInside insideOf
-    sideOk volumes sixSplits chosen ranksOf bestOf bestFrom laterOf betterOf fitOf larger keptOne kept appendedOf insertBy insertAll
+    sideOk volumes sixSplits chosen ranksOf bestOf bestFrom laterOf betterOf fitChecks fitOf larger keptOne kept appendedOf insertBy insertAll
     chamberAt chambersOf lengthsOk idOk shapeOk chamberOk badSections partAt freeAt freeOf partOf freshTable freshStore freshOf
     chamberOf pushChecks returnChecks returned returnOf
-    rectAt badRect repeatedId sameGroup leadOf isLead share groupVolume keyWith comesBefore earlier groupOrder groupsOf
-    placeFrom placeOne placeAll placeGroup order.goesBefore order.tried order.trialOrder seated
+    placementAt rectAt badRect repeatedId sameGroup leadOf isLead share groupVolume keyWith comesBefore earlier groupOrder groupsOf
+    placeFrom placeOne placeAll placeGroup order.goesBefore order.triedBefore order.trialOrder seated
     rectsAt trialIn firstWhole changed packGroups rectLengthsOk noRoom rectChecks packChecks start packing binsWith written packOf
-    placedIn boxOf newBoxes places afterPack sameBox takenOut afterReturn
+    placedIn recordBox newBoxes places afterPack sameBox takenOut afterReturn
     lentChambers lentStore three faulty two returnedBox chamberWith free₀ free₁ free₄ free₅ records₁ records₅
-    auditAt audit.auditBoxes audit.lengthsOk sharesEarlier audit.auditReply audit.shownOf
+    auditAt audit.auditBoxes audit.boxListsOk sharesEarlier audit.auditReply audit.shownOf
     audit.auditOf ledger₁ ledger₂ ledger₃ ledger₄ ledger₅
 jobs =
     record {
@@ -175,10 +177,10 @@ run =
     subst (λ (o : Outcome). Run (hallOf (o .chambers) (o .store) nothing)) (jobs .freshly)
     (fresh lentChambers lentStore (ap (λ (o : Outcome). o .reply .number) (jobs .freshly))) in
     let r₁ : Run (hallOf (chamberWith 1) (partOf free₁) ledger₁) =
-    subst (λ (o : PackOutcome). Run (hallOf (o .chambers) (o .store) (afterPack (o .answer) three (o .placements) nothing))) (jobs .kept-first)
+    subst (λ (o : PackOutcome). Run (hallOf (o .chambers) (o .store) (afterPack (o .reply) three (o .placements) nothing))) (jobs .kept-first)
     (packs r₀ three (replicate 15 9)) in
     let r₂ : Run (hallOf (chamberWith 1) (partOf free₁) ledger₂) =
-    subst (λ (o : PackOutcome). Run (hallOf (o .chambers) (o .store) (afterPack (o .answer) faulty (o .placements) ledger₁))) (jobs .refused)
+    subst (λ (o : PackOutcome). Run (hallOf (o .chambers) (o .store) (afterPack (o .reply) faulty (o .placements) ledger₁))) (jobs .refused)
     (packs r₁ faulty (replicate 5 9)) in
     let r₃ : Run (hallOf (chamberWith 1) (partOf free₁) ledger₃) =
     subst (λ (o : Outcome). Run (hallOf (o .chambers) (o .store) (afterReturn (o .reply) 1 (box 5 0 0 2 2 1) ledger₂))) (jobs .shared)
@@ -186,7 +188,7 @@ run =
     let r₄ : Run (hallOf (chamberWith 2) (partOf free₄) ledger₄) =
     subst (λ (o : Outcome). Run (hallOf (o .chambers) (o .store) (afterReturn (o .reply) 1 returnedBox ledger₃))) (jobs .back)
     (returns r₃ 1 returnedBox (λ z. jobs .still-placed)) in
-    subst (λ (o : PackOutcome). Run (hallOf (o .chambers) (o .store) (afterPack (o .answer) two (o .placements) ledger₄))) (jobs .again)
+    subst (λ (o : PackOutcome). Run (hallOf (o .chambers) (o .store) (afterPack (o .reply) two (o .placements) ledger₄))) (jobs .again)
     (packs r₄ two (replicate 10 9))
 
 accepts : AuditAccepts end

@@ -13,13 +13,13 @@ use Rattle.bin_section.specs.declared.section.BinSection.{BinSection}
 use Rattle.bin_section.specs.Section.{zeroSection, sectionAt}
 use Rattle.bin_section.specs.Sides.{sides}
 use Rattle.cells.specs.Whole.{Inside}
-use Rattle.sections.proofs.Chunks.{length-joined, length-joined-tab}
+use Rattle.words.proofs.Records.{length-joined-tab}
 use Rattle.sections.proofs.Reading.{getD-sections}
 use Rattle.target_bin.specs.declared.chamber.TargetBin.{TargetBin}
 use Rattle.target_bin.specs.Chambers.{bin, binWords, chamberAt, chamberCount, tableOf}
 use Rattle.target_bin.specs.Store.{partAt, freeAt, partOf, storeOf}
-use Rattle.target_bin.specs.Checks.{Counted}
-use Rattle.target_bin.proofs.Tables.{count-tableOf, chamberAt-tableOf}
+use Rattle.target_bin.specs.Leaning.{Counted}
+use Rattle.target_bin.proofs.Tables.{count-tableOf, chamberAt-tableOf, length-tableOf}
 use Rattle.target_bin.proofs.Parts.{length-partOf, sections-partOf, partAt-storeOf, store-decoded, getD-freeOf}
 use Rattle.target_bin.proofs.Passing.{Sound}
 use Rattle.rectangle_pack.specs.Pack.{binsWith}
@@ -79,7 +79,7 @@ module _
         record {
           shaped = record {
             few = omega (arith, written-count, sound .shaped .few);
-            whole = omega (arith, length-joined (λ b. binWords b) 5 (binsWith chambers frees) (λ b. refl), bins-long, written-count);
+            whole = omega (arith, length-tableOf (binsWith chambers frees), bins-long, written-count);
             long = omega (arith, store-long, written-count);
             counted = written-counted;
           };

@@ -1,14 +1,14 @@
 -- What an onlooker writes down who sees the lent words and the replies alone: which boxes are placed in each chamber.
-use Prim.Native.Nat.{ℕ, _+_, _*_}
+use Prim.Native.Nat.{ℕ}
 use mathlib.Core.List.{List, [], _∷_, _++_, map}
 use mathlib.Core.Bool.{Bool, _&&_, _||_, cond}
 use lib.Dec.{eqb}
-use lib.ListN.{getD}
 use Rattle.lists.specs.Pick.{picked}
 use Rattle.replies.specs.declared.reply.Reply.{Reply}
 use Rattle.bin_section.specs.declared.section.BinSection.{BinSection}
 use Rattle.bin_section.specs.Section.{section}
 use Rattle.grouped_rects_to_place.specs.Rect.{rectAt, rectCount}
+use Rattle.placement.specs.Placements.{placementAt}
 
 -- the boxes placed and not yet taken back, under each chamber id
 abbrev pub Ledger : Type 0
@@ -20,18 +20,18 @@ nothing id = []
 
 -- ---- A pack.
 
--- "Placement record, 5 words, at the rectangle's index: 1 if placed else 0, chamber id, ..": the rectangle is placed in that chamber
+-- "Placement record, .. at the rectangle's index: 1 if placed else 0, chamber id, ..": the rectangle is placed in that chamber
 unfoldable pub placedIn : List ℕ → ℕ → ℕ → Bool
-placedIn placements id i = eqb (getD placements (i * 5) 0) 1 && eqb (getD placements (i * 5 + 1) 0) id
+placedIn placements id i = eqb (placementAt placements i .placed) 1 && eqb (placementAt placements i .chamber) id
 
 -- "x, y, z" of the record, with the rectangle's sides
-unfoldable pub boxOf : List ℕ → List ℕ → ℕ → BinSection
-boxOf rects placements i =
-    section (getD placements (i * 5 + 2) 0) (getD placements (i * 5 + 3) 0) (getD placements (i * 5 + 4) 0) (rectAt rects i .whd)
+unfoldable pub recordBox : List ℕ → List ℕ → ℕ → BinSection
+recordBox rects placements i =
+    section (placementAt placements i .x) (placementAt placements i .y) (placementAt placements i .z) (rectAt rects i .whd)
 
 -- the boxes that a pack placed in a chamber, in table order
 unfoldable pub newBoxes : List ℕ → List ℕ → ℕ → List BinSection
-newBoxes rects placements id = map (boxOf rects placements) (picked (rectCount rects) (placedIn placements id))
+newBoxes rects placements id = map (recordBox rects placements) (picked (rectCount rects) (placedIn placements id))
 
 -- a pack places only where it answers 0 or 7
 unfoldable pub places : Reply → Bool

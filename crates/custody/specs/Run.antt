@@ -32,7 +32,7 @@ freshHall chambers store = let o = freshOf chambers store in hallOf (o .chambers
 abbrev pub packed : Hall → List ℕ → List ℕ → Hall
 packed hall rects placements =
     let o = packOf (hall .chambers) (hall .store) rects placements in
-    hallOf (o .chambers) (o .store) (afterPack (o .answer) rects (o .placements) (hall .ledger))
+    hallOf (o .chambers) (o .store) (afterPack (o .reply) rects (o .placements) (hall .ledger))
 
 abbrev pub takenBack : Hall → ℕ → BinSection → Hall
 takenBack hall id box =

@@ -146,4 +146,4 @@ abbrev pub audit : WidthHeightDepth → List BinSection → List BinSection → 
 audit whd placed open′ = audits whd (allWords placed) (allWords open′)
 
 abbrev pub audited_shown_sum_ : Reply → List BinSection → ℕ → Outcome
-audited r shown bs sum n = ofAudit (record { answer = r; shown = allWords bs; sum = n })
+audited r shown bs sum n = ofAudit (record { reply = r; shown = allWords bs; sum = n })

@@ -94,14 +94,14 @@ unfolding lowest anyBelow picked sumTo tab removeAt inOrder sectionAt spanInside
     chamberAt lengthsOk idOk shapeOk chamberOk badSections partAt freeAt freeOf partOf
     rectAt badRect repeatedId sameGroup leadOf isLead share groupVolume keyWith comesBefore earlier groupOrder groupsOf
     fitChecks fitOf sixSplits chosen ranksOf bestOf bestFrom laterOf betterOf appendedOf larger keptOne kept insertBy insertAll
-    placeFrom placeOne placeAll placeGroup order.goesBefore order.tried order.trialOrder seated
+    placeFrom placeOne placeAll placeGroup order.goesBefore order.triedBefore order.trialOrder seated
     rectsAt trialIn firstWhole changed packGroups rectLengthsOk noRoom rectChecks packChecks start packing binsWith written packOf
 packed t rects placements = packOf (t .chambers) (t .store) rects placements
 
 -- of a pack, the reply alone
 unfoldable pub replied : Tables → List ℕ → List ℕ → Reply
 unfolding packed
-replied t rects placements = packed t rects placements .answer
+replied t rects placements = packed t rects placements .reply
 
 -- the tables that fresh leaves
 unfoldable pub freshened : Tables → Tables
@@ -113,7 +113,7 @@ freshened t =
 -- ---- an audit
 
 pub record AuditShown : Type 0 where
-  pub answer : Reply
+  pub reply : Reply
   -- the words that it shows
   pub shown : List ℕ
   -- what the volumes of all boxes sum to
@@ -121,7 +121,7 @@ pub record AuditShown : Type 0 where
 
 unfoldable pub audited : WidthHeightDepth → List ℕ → List ℕ → AuditShown
 unfolding lowest anyBelow tab inOrder sectionAt spansMeet overlapsOf spanInside insideOf sideOk volumes
-    sections auditing.auditBoxes auditing.lengthsOk sharesEarlier auditing.auditReply auditing.shownOf auditing.auditOf
+    sections auditing.auditBoxes auditing.boxListsOk sharesEarlier auditing.auditReply auditing.shownOf auditing.auditOf
 audited whd placed free =
     let a = auditing.auditOf whd placed free in
-    record { answer = a .answer; shown = a .shown; sum = volumes (auditing.auditBoxes placed free) }
+    record { reply = a .reply; shown = a .shown; sum = volumes (auditing.auditBoxes placed free) }

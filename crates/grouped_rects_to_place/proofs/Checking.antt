@@ -9,7 +9,8 @@ use Rattle.lists.proofs.Lowests.{None}
 use Rattle.bin_section.specs.Sides.{sidesOk}
 use Rattle.bin_section.proofs.Ranges.{SidesInRange, sides→range, range→small}
 use Rattle.grouped_rects_to_place.specs.declared.rect_to_place.RectToPlace.{RectToPlace}
-use Rattle.grouped_rects_to_place.specs.Rect.{rectAt, HasRects, GoodRects}
+use Rattle.grouped_rects_to_place.specs.Rect.{rectAt}
+use Rattle.grouped_rects_to_place.specs.Leaning.{HasRects, GoodRects}
 use Rattle.grouped_rects_to_place.specs.Checks.{badRect}
 
 -- what check 4 leaves of each rectangle

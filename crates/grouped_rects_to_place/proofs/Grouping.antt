@@ -17,18 +17,8 @@ use Rattle.lists.proofs.Inserts.{insert-same}
 use Rattle.lists.proofs.Picks.{pick-each, pick-more, pick-yes, pick-no, length-pick}
 use Rattle.lists.proofs.Sorts.{each-map, each-at, sort-each, sort-more, length-sort}
 use Rattle.grouped_rects_to_place.specs.declared.rect_to_place.RectToPlace.{RectToPlace}
-use Rattle.grouped_rects_to_place.specs.Groups.{
-  leadOf,
-  isLead,
-  groupVolume,
-  keyWith,
-  comesBefore,
-  earlier,
-  groupOrder,
-  Listed,
-  Pushed,
-}
-use Rattle.grouped_rects_to_place.specs.Sorting.{earlierBy, SortedTo}
+use Rattle.grouped_rects_to_place.specs.Groups.{leadOf, isLead, groupVolume, keyWith, comesBefore, earlier, groupOrder}
+use Rattle.grouped_rects_to_place.specs.Leaning.{Listed, Pushed, earlierBy, SortedTo}
 
 -- ---- an array that holds a list at its front
 

@@ -1,4 +1,4 @@
 pub mod Rect
 pub mod Checks
 pub mod Groups
-pub mod Sorting
+pub mod Leaning

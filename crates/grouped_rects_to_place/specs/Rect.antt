@@ -1,8 +1,8 @@
 -- A rectangle and its words in the lent table.
-use Prim.Native.Nat.{ℕ, _+_, _*_, _/_, _≤_, _<_}
+use Prim.Native.Nat.{ℕ, _+_, _*_, _/_}
 use mathlib.Core.List.{List, [], _∷_}
 use lib.ListN.{length, getD}
-use Rattle.bin_section.specs.Sides.{sides, Small}
+use Rattle.bin_section.specs.Sides.{sides}
 use Rattle.grouped_rects_to_place.specs.declared.rect_to_place.RectToPlace.{RectToPlace}
 
 -- "Rectangle record, 5 words: id, group (0 for none), width, height, depth"
@@ -24,18 +24,3 @@ rectWords r = r .id ∷ r .group ∷ r .whd .width ∷ r .whd .height ∷ r .whd
 -- how many rectangles a table has
 abbrev pub rectCount : List ℕ → ℕ
 rectCount rects = length rects / rectWidth
-
--- ---- What the code may lean on.
-
--- a record stands at an index of the table; n records stand there
-abbrev pub HasRect : List ℕ → ℕ → Type 0
-HasRect w i = i * rectWidth + rectWidth ≤ length w
-
-abbrev pub HasRects : List ℕ → ℕ → Type 0
-HasRects w n = n * rectWidth ≤ length w
-
--- what checks 1 and 4 leave of a table of n rectangles: "at most 63 in a call", no side above 65,535
-pub record GoodRects (w : List ℕ) (n : ℕ) : Type 0 where
-  pub few : n ≤ 63
-  pub long : HasRects w n
-  pub small : (i : ℕ) → i < n → Small (rectAt w i .whd)

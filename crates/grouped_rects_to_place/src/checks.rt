@@ -2,7 +2,8 @@
 ghost use mathlib.Core.Path.{_≡_};
 ghost use Prim.Native.Nat.{_≤_};
 ghost use Rattle.lists.specs.Lowest.{lowest};
-ghost use Rattle.grouped_rects_to_place.specs.Rect.{HasRect, HasRects, rectAt};
+ghost use Rattle.grouped_rects_to_place.specs.Rect.{rectAt};
+ghost use Rattle.grouped_rects_to_place.specs.Leaning.{HasRect, HasRects};
 ghost use Rattle.grouped_rects_to_place.specs.Checks.{badRect, repeatedId};
 use crate::rect_to_place::RectToPlace;
 

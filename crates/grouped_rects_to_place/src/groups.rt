@@ -2,8 +2,9 @@
 ghost use mathlib.Core.Path.{_≡_};
 ghost use Prim.Native.Nat.{_<_, _≤_};
 ghost use lib.ListN.{length};
-ghost use Rattle.grouped_rects_to_place.specs.Rect.{HasRect, HasRects, GoodRects, rectAt};
-ghost use Rattle.grouped_rects_to_place.specs.Groups.{sameGroup, leadOf, share, groupVolume, members, Listed, Pushed};
+ghost use Rattle.grouped_rects_to_place.specs.Rect.{rectAt};
+ghost use Rattle.grouped_rects_to_place.specs.Leaning.{HasRect, HasRects, GoodRects, Listed, Pushed};
+ghost use Rattle.grouped_rects_to_place.specs.Groups.{sameGroup, leadOf, share, groupVolume, members};
 use crate::rect_to_place::RectToPlace;
 
 // A rectangle with no group is a group of one.

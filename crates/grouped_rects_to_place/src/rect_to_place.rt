@@ -2,7 +2,8 @@
 ghost use mathlib.Core.Path.{_≡_};
 ghost use Prim.Native.Nat.{_*_};
 ghost use Rattle.lists.specs.Tab.{put};
-ghost use Rattle.grouped_rects_to_place.specs.Rect.{HasRect, rectAt, rectWidth, rectWords};
+ghost use Rattle.grouped_rects_to_place.specs.Rect.{rectAt, rectWidth, rectWords};
+ghost use Rattle.grouped_rects_to_place.specs.Leaning.{HasRect};
 use bin_section::WidthHeightDepth;
 use words::put_words;
 

@@ -15,7 +15,7 @@ use Rattle.bin_section.specs.Section.{sectionAt}
 use Rattle.bin_section.specs.Inside.{Inside}
 use Rattle.bin_section.proofs.Ranges.{SidesInRange, range→small}
 use Rattle.sections.specs.Sections.{sections}
-use Rattle.try_place.specs.Try.{Reachable}
+use Rattle.try_place.specs.Leaning.{Reachable}
 use Rattle.try_place.proofs.Remaining.{Within}
 use Rattle.target_bin.specs.Chambers.{chamberAt, chamberCount}
 use Rattle.target_bin.specs.Store.{partAt, freeAt}
@@ -29,7 +29,7 @@ use Rattle.grouped_rects_to_place.proofs.Checking.{rects-range}
 use Rattle.grouped_rects_to_place.proofs.Sizes.{groups-each}
 use Rattle.packing_rules.specs.Order.{trialOrder}
 use Rattle.packing_rules.specs.Packing.{State, rectsAt, trialIn, packGroups, start, packing}
-use Rattle.packing_rules.specs.Promises.{boxAt, BoxesAre}
+use Rattle.packing_rules.specs.Promises.{locationBox, BoxesAre}
 use Rattle.packing_rules.proofs.Placings.{group-placings}
 use Rattle.packing_rules.proofs.Left.{Sided, placings-left, inside-reachable, inside-passes}
 use Rattle.packing_rules.proofs.Seats.{empty-seat, seated-cases}
@@ -75,7 +75,7 @@ module _
             at = λ i id l f.
                 ⊎-elim (λ u. a .boxes-are .at i id l (sym u ∙ f))
                 (λ u. let x : id ≡ ids k = cc in let y : u .0 ≡ l = cc in (k, h, x, rw y at (u .1)))
-                (seated-cases (λ m. P k (boxAt m)) (ids k) g (s .seats) i (w .1));
+                (seated-cases (λ m. P k (locationBox m)) (ids k) g (s .seats) i (w .1));
           };
         }))
 

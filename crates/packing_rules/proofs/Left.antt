@@ -21,12 +21,13 @@ use Rattle.bin_section.specs.Inside.{Inside}
 use Rattle.try_place.specs.declared.packed_location.PackedLocation.{PackedLocation}
 use Rattle.try_place.specs.declared.TryAnswer.the-variants.{Placed}
 use Rattle.try_place.specs.declared.Tried.{Tried}
-use Rattle.try_place.specs.Try.{Reachable, fitOf}
+use Rattle.try_place.specs.Try.{fitOf}
+use Rattle.try_place.specs.Leaning.{Reachable}
 use Rattle.try_place.proofs.Remaining.{Within, placed-within, placed-three}
 use Rattle.try_place.proofs.Trying.{fit-is}
 use Rattle.packing_rules.specs.Appended.{larger, keptOne, kept, appendedOf}
 use Rattle.packing_rules.specs.Rules.{placed, placeOne}
-use Rattle.packing_rules.specs.Promises.{boxAt}
+use Rattle.packing_rules.specs.Promises.{locationBox}
 use Rattle.packing_rules.proofs.Placings.{Placings, no-more, then, locationIn, placed-at}
 
 -- no zero side
@@ -81,18 +82,18 @@ module _ (P : BinSection → Type 0) (reach : (s : BinSection) → P s → Reach
         (each-map (λ b w. passes s b p (w .0) (w .1))
         (appended-sided (fitOf s r .sections) (parts-within s r (reach s p) (ap (λ (t : Tried). t .answer) (fit-is s r (q .1 .fits)))))))
 
-    pub one-box : Sided (r .whd) → P (boxAt l)
+    pub one-box : Sided (r .whd) → P (locationBox l)
     one-box v =
         let q = placed-at free r l free′ e in
         let s = getD free (q .0) zeroSection in
-        rw (q .1 .here) (passes s (boxAt (locationIn s r)) (each-at ps (q .0) zeroSection (q .1 .within)) (omega (arith, q .1 .fits)) v)
+        rw (q .1 .here) (passes s (locationBox (locationIn s r)) (each-at ps (q .0) zeroSection (q .1 .within)) (omega (arith, q .1 .fits)) v)
 
   pub placings-left :
       {free free′ : List BinSection} {rs : List RectToInsert} {ls : List PackedLocation}
       → Placings free rs ls free′
       → Each (λ r. Sided (r .whd)) rs
       → Each P free
-      → Each P free′ × Each (λ l. P (boxAt l)) ls
+      → Each P free′ × Each (λ l. P (locationBox l)) ls
   placings-left no-more vs ps = (ps, none)
   placings-left (then {free} {mid} {free′} {r} {rs} {l} e p) (also v vs) ps =
       let q = placings-left p vs (one-left free r l mid e ps) in

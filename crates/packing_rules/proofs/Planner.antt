@@ -31,7 +31,7 @@ use Rattle.packing_rules.proofs.Turns.{not-whole, turn-served, turn-ref
 module _ (order : List ℕ) (ids : ℕ → ℕ) (r : ℕ → RectToPlace) where
   abbrev DoneOrRefused : List (List ℕ) → State → Ended → Type 0
   DoneOrRefused groups s e =
-      (e .answer ≡ reply 0 0)
+      (e .reply ≡ reply 0 0)
       ⊎ ((earlier : List (List ℕ)) × (refused : List ℕ) × (later : List (List ℕ)) × RefusedAt order ids r groups s e earlier refused later)
 
   -- every group is placed and the answer is 0, or one is refused: those before it were all placed and stay as they were placed
@@ -57,10 +57,10 @@ module _ (order : List ℕ) (ids : ℕ → ℕ) (r : ℕ → RectToPlace) where
   -- the groups hs follow gs, which are all placed
   packed-then :
       (hs gs : List (List ℕ)) (s : State)
-      → packGroups order ids r gs s .answer ≡ reply 0 0
+      → packGroups order ids r gs s .reply ≡ reply 0 0
       → packGroups order ids r (gs ++ hs) s ≡ packGroups order ids r hs (packGroups order ids r gs s .after)
   packed-then hs =
-      by-turns order ids r (λ gs s e. e .answer ≡ reply 0 0 → packGroups order ids r (gs ++ hs) s ≡ packGroups order ids r hs (e .after))
+      by-turns order ids r (λ gs s e. e .reply ≡ reply 0 0 → packGroups order ids r (gs ++ hs) s ≡ packGroups order ids r hs (e .after))
       (λ s a. refl)
       (λ g gs s p a. let z : _≡_ {A = ℕ} 7 0 = ap (λ (x : Reply). x .number) a in absurd (omega arith))
       (λ g gs s t ls free p e rest a.
@@ -69,7 +69,7 @@ module _ (order : List ℕ) (ids : ℕ → ℕ) (r : ℕ → RectToPlace) where
   -- the other way round: a group that none serves once those before it are placed ends the packing, and they stay as they were placed
   pub earlier-stay :
       (gs hs : List (List ℕ)) (g : List ℕ) (s : State)
-      → packGroups order ids r gs s .answer ≡ reply 0 0
+      → packGroups order ids r gs s .reply ≡ reply 0 0
       → NoneServes order r g (packGroups order ids r gs s .after .frees)
       → packGroups order ids r (gs ++ (g ∷ hs)) s ≡ ended (reply 7 (getD g 0 0)) (packGroups order ids r gs s .after)
   earlier-stay gs hs g s e p = packed-then (g ∷ hs) gs s e ∙ turn-refused order ids r g hs (packGroups order ids r gs s .after) p
@@ -77,7 +77,7 @@ module _ (order : List ℕ) (ids : ℕ → ℕ) (r : ℕ → RectToPlace) where
 -- of the groups of a table: at 7 the detail is the first index of the refused group, which is one of them
 pub refused-first :
     (chambers store rects : List ℕ)
-    → (packing chambers store rects .answer ≡ reply 0 0)
+    → (packing chambers store rects .reply ≡ reply 0 0)
     ⊎ ((earlier : List (List ℕ))
     × (refused : List ℕ)
     × (later : List (List ℕ))
@@ -85,7 +85,7 @@ pub refused-first :
     × RefusedAt (trialOrder chambers) (λ k. chamberAt chambers k .id) (rectAt rects) (groupsOf (rectCount rects) (rectAt rects))
     (start chambers store rects) (packing chambers store rects) earlier refused later
     × Group (rectCount rects) (rectAt rects) refused lead
-    × (packing chambers store rects .answer ≡ reply 7 lead))
+    × (packing chambers store rects .reply ≡ reply 7 lead))
 unfolding packing
 refused-first chambers store rects =
     ⊎-elim inl

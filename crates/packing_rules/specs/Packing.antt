@@ -51,11 +51,11 @@ unfoldable pub changed : (ℕ → RectToPlace) → ℕ → ℕ → List ℕ → 
 changed r id k group s = changedBy (trialIn r group (s .frees) k) id k group s
 
 pub record Ended : Type 0 where
-  pub answer : Reply
+  pub reply : Reply
   pub after : State
 
 abbrev pub ended : Reply → State → Ended
-ended answer after = record { answer = answer; after = after }
+ended answer after = record { reply = answer; after = after }
 
 -- "If none serves, the answer is 7, the later groups are not tried, and earlier groups stay." ids: the id of each chamber
 unfoldable pub packGroups : List ℕ → (ℕ → ℕ) → (ℕ → RectToPlace) → List (List ℕ) → State → Ended

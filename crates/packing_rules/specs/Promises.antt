@@ -35,12 +35,12 @@ pub record NoneServes (order : List ℕ) (r : ℕ → RectToPlace) (group : List
 pub record RefusedAt (order : List ℕ) (ids : ℕ → ℕ) (r : ℕ → RectToPlace) (groups : List (List ℕ)) (s : State) (e : Ended) (earlier : List (List ℕ)) (refused : List ℕ) (later : List (List ℕ)) : Type 0 where
   pub among : groups ≡ earlier ++ (refused ∷ later)
   pub stay : packGroups order ids r earlier s ≡ ended (reply 0 0) (e .after)
-  pub seven : e .answer ≡ reply 7 (getD refused 0 0)
+  pub seven : e .reply ≡ reply 7 (getD refused 0 0)
   pub none-serves : NoneServes order r refused (e .after .frees)
 
 -- the box that is placed at a location
-abbrev pub boxAt : PackedLocation → BinSection
-boxAt l = section (l .x) (l .y) (l .z) (l .whd)
+abbrev pub locationBox : PackedLocation → BinSection
+locationBox l = section (l .x) (l .y) (l .z) (l .whd)
 
 -- a group is whole in one chamber or nowhere
 pub data WholeOrNowhere (order : List ℕ) (ids : ℕ → ℕ) (seats : List Seat) (group : List ℕ) : Type 0 where
@@ -49,4 +49,4 @@ pub data WholeOrNowhere (order : List ℕ) (ids : ℕ → ℕ) (seats : List Sea
 
 -- every placed box is as P says of a chamber, one of n, whose id stands in its record
 pub record BoxesAre (n : ℕ) (ids : ℕ → ℕ) (P : ℕ → BinSection → Type 0) (seats : List Seat) : Type 0 where
-  pub at : (i id : ℕ) (l : PackedLocation) → getD seats i unplaced ≡ seat id l → (k : ℕ) × (k < n) × (id ≡ ids k) × P k (boxAt l)
+  pub at : (i id : ℕ) (l : PackedLocation) → getD seats i unplaced ≡ seat id l → (k : ℕ) × (k < n) × (id ≡ ids k) × P k (locationBox l)

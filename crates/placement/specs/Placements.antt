@@ -1,7 +1,7 @@
 -- "Placement record, 5 words, at the rectangle's index: 1 if placed else 0, chamber id, x, y, z."
-use Prim.Native.Nat.{ℕ, _+_, _*_, _≤_}
+use Prim.Native.Nat.{ℕ, _+_, _*_}
 use mathlib.Core.List.{List, [], _∷_}
-use lib.ListN.{length, getD}
+use lib.ListN.{getD}
 use Rattle.words.specs.Words.{joined}
 use Rattle.placement.specs.declared.Placement.{Placement}
 
@@ -27,11 +27,3 @@ placementWords p = p .placed ∷ p .chamber ∷ p .x ∷ p .y ∷ p .z ∷ []
 -- the table written
 abbrev pub placementTable : List Placement → List ℕ
 placementTable = joined (λ p. placementWords p)
-
--- ---- What the code may lean on: a record stands at an index of the table; n records stand there.
-
-abbrev pub HasPlacement : List ℕ → ℕ → Type 0
-HasPlacement w i = i * placementWidth + placementWidth ≤ length w
-
-abbrev pub HasPlacements : List ℕ → ℕ → Type 0
-HasPlacements w n = n * placementWidth ≤ length w

@@ -2,7 +2,8 @@
 ghost use mathlib.Core.Path.{_≡_};
 ghost use Prim.Native.Nat.{_*_};
 ghost use Rattle.lists.specs.Tab.{put};
-ghost use Rattle.placement.specs.Placements.{placementWidth, placementAt, placementWords, HasPlacement};
+ghost use Rattle.placement.specs.Placements.{placementWidth, placementAt, placementWords};
+ghost use Rattle.placement.specs.Leaning.{HasPlacement};
 use words::put_words;
 
 pub struct Placement {

@@ -11,14 +11,13 @@ use Rattle.sections.specs.Sections.{sections}
 use Rattle.try_place.specs.declared.packed_location.PackedLocation.{PackedLocation}
 use Rattle.try_place.specs.declared.TryAnswer.the-variants.{Placed}
 use Rattle.try_place.specs.declared.Tried as Try
-use Rattle.try_place.specs.Choice.{SmallBoxes}
-use Rattle.try_place.specs.Try.{Reachable, fitOf}
+use Rattle.try_place.specs.Leaning.{SmallBoxes, Reachable}
+use Rattle.try_place.specs.Try.{fitOf}
 use Rattle.try_place.proofs.Remaining.{placed-small}
 use Rattle.packing_rules.specs.Appended.{appendedOf}
 use Rattle.packing_rules.specs.Rules.{placed, placeOne}
 use Rattle.placing.specs.declared.place.Spot.the-variants.{At, Nowhere}
-use Rattle.placing.specs.Added.{Replaced}
-use Rattle.placing.specs.Place.{Reaching, PlacedIn}
+use Rattle.placing.specs.Leaning.{Replaced, Reaching, PlacedIn}
 use Rattle.placing.proofs.Finding.{Tried, tried-placed, tried-all}
 use Rattle.placing.proofs.Reaches.{still-reaching}
 

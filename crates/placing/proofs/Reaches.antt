@@ -10,11 +10,11 @@ use Rattle.bin_section.specs.Section.{sectionAt, zeroSection}
 use Rattle.sections.specs.Sections.{sections}
 use Rattle.sections.proofs.Reading.{length-sections, getD-sections}
 use Rattle.try_place.specs.declared.packed_location.PackedLocation.{PackedLocation}
-use Rattle.try_place.specs.Try.{Reachable}
+use Rattle.try_place.specs.Leaning.{Reachable}
 use Rattle.try_place.proofs.Remaining.{within-reachable}
 use Rattle.packing_rules.specs.Rules.{placed, placeOne}
 use Rattle.packing_rules.proofs.Left.{one-left}
-use Rattle.placing.specs.Place.{Reaching}
+use Rattle.placing.specs.Leaning.{Reaching}
 
 pub reaching-each : (n : ℕ) (w : List ℕ) → Reaching n w → Each Reachable (sections w n)
 unfolding sections

@@ -29,7 +29,7 @@ pub front-packed :
     ≡ packFresh (take (bins * 5 - 0) a) (take (bins * 768 - 0) b) (take (n * 5 - 0) c) (take (n * 5 - 0) d)
     → length p ≡ n * 5
     → PackedFront (packFresh (take (bins * 5) a) (take (bins * 768) b) (take (n * 5) c) (take (n * 5) d)) n (p ++ drop (n * 5 - 0) d) r
-front-packed bins n a b c d r x y p e l = record { answer = ap (λ (o : PackOutcome). o .answer) same; placed = take-at p (drop (n * 5 - 0) d) (n * 5) l ∙ ap (λ (o : PackOutcome). o .placements) same }
+front-packed bins n a b c d r x y p e l = record { answer = ap (λ (o : PackOutcome). o .reply) same; placed = take-at p (drop (n * 5 - 0) d) (n * 5) l ∙ ap (λ (o : PackOutcome). o .placements) same }
   where
     same : packOutcome r x y p ≡ packFresh (take (bins * 5) a) (take (bins * 768) b) (take (n * 5) c) (take (n * 5) d)
     same = rw (whole-part (bins * 5) a, whole-part (bins * 768) b, whole-part (n * 5) c, whole-part (n * 5) d) at e
@@ -121,7 +121,7 @@ module _ (l : ListRead) (few : Few l) (a b c d : List ℕ) (sized : Sized a b c 
       subst (λ (t : List ℕ). Written 0 t out out′ r)
       (ap (λ (x : List ℕ). packReport (take (l .chambers) b) (take (l .coils) d) (take (l .coils * 5) c) x (l .coils) answer) (p .placed)
       ∙ ap (λ (x : Reply). packReport (take (l .chambers) b) (take (l .coils) d) (take (l .coils * 5) c) (o .placements) (l .coils) x) (p .answer)
-      ∙ ap (λ (k : ℕ). packReport (take (l .chambers) b) (take (l .coils) d) (take (l .coils * 5) c) (o .placements) k (o .answer)) (sym coils-read)
+      ∙ ap (λ (k : ℕ). packReport (take (l .chambers) b) (take (l .coils) d) (take (l .coils * 5) c) (o .placements) k (o .reply)) (sym coils-read)
       ∙ ap (packText read) (packed-is st pl zs zp))
       w
     where

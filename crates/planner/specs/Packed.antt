@@ -29,5 +29,5 @@ packedList r =
 
 -- the reply and the first n placements are the outcome's
 pub record PackedFront (o : PackOutcome) (n : ℕ) (placements : List ℕ) (r : Reply) : Type 0 where
-  pub answer : r ≡ o .answer
+  pub answer : r ≡ o .reply
   pub placed : take (n * 5) placements ≡ o .placements

@@ -11,7 +11,7 @@ use Rattle.planner.specs.Packed.{packedList}
 
 -- where each coil goes and which coils wait, and a refusal in words
 unfoldable pub packText : Reading → PackOutcome → List ℕ
-packText r o = packReport (r .chamberLines) (r .coilLines) (r .coils) (o .placements) (length (r .coilLines)) (o .answer)
+packText r o = packReport (r .chamberLines) (r .coilLines) (r .coils) (o .placements) (length (r .coilLines)) (o .reply)
 
 -- the report of a list
 unfoldable pub listReport : Reading → List ℕ

@@ -14,15 +14,16 @@ use Rattle.replies.specs.declared.reply.Reply.{Reply}
 use Rattle.replies.specs.Replies.{Check, reply, once, each, inOrder}
 use Rattle.bin_section.specs.Section.{sectionAt}
 use Rattle.bin_section.specs.Sides.{Small}
-use Rattle.try_place.specs.Try.{Reachable}
-use Rattle.placing.specs.Place.{Reaching}
+use Rattle.try_place.specs.Leaning.{Reachable}
+use Rattle.placing.specs.Leaning.{Reaching}
 use Rattle.target_bin.specs.declared.chamber.TargetBin.{TargetBin}
 use Rattle.target_bin.specs.Chambers.{chamberAt, chamberCount}
 use Rattle.target_bin.specs.Checks.{tableChecks}
 use Rattle.target_bin.specs.Store.{partAt}
 use Rattle.replies.proofs.Ladders.{AllPass, passes, row-passes, row-fires, past, no-fault}
 use Rattle.target_bin.proofs.Passing.{Sound, tables-sound}
-use Rattle.grouped_rects_to_place.specs.Rect.{rectAt, rectWidth, rectCount, GoodRects}
+use Rattle.grouped_rects_to_place.specs.Rect.{rectAt, rectWidth, rectCount}
+use Rattle.grouped_rects_to_place.specs.Leaning.{GoodRects}
 use Rattle.placement.specs.Placements.{placementWidth}
 use Rattle.grouped_rects_to_place.specs.Checks.{badRect, repeatedId}
 use Rattle.grouped_rects_to_place.proofs.Checking.{good-rects}

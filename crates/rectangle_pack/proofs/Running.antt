@@ -14,13 +14,13 @@ use Rattle.replies.specs.declared.reply.Reply.{Reply}
 use Rattle.replies.specs.Replies.{reply}
 use Rattle.sections.proofs.Reading.{length-sections}
 use Rattle.target_bin.specs.Chambers.{bin, chamberAt, chamberCount, chambersOf, tableOf}
-use Rattle.target_bin.specs.Checks.{Shaped}
+use Rattle.target_bin.specs.Leaning.{Shaped}
 use Rattle.target_bin.specs.Store.{freeAt, freeOf, storeOf}
 use Rattle.target_bin.proofs.Parts.{getD-freeOf, store-encoded}
 use Rattle.target_bin.proofs.Tables.{table-encoded}
 use Rattle.grouped_rects_to_place.specs.declared.rect_to_place.RectToPlace.{RectToPlace}
-use Rattle.grouped_rects_to_place.specs.Rect.{HasRects}
-use Rattle.grouped_rects_to_place.specs.Groups.{isLead, members, earlier, groupOrder, groupsOf, Listed}
+use Rattle.grouped_rects_to_place.specs.Leaning.{HasRects, Listed}
+use Rattle.grouped_rects_to_place.specs.Groups.{isLead, members, earlier, groupOrder, groupsOf}
 use Rattle.grouped_rects_to_place.proofs.Grouping.{each-entry}
 use Rattle.lists.proofs.Totals.{total}
 use Rattle.grouped_rects_to_place.proofs.Sizes.{groups-total, group-of}
@@ -51,7 +51,7 @@ module _ (n : ℕ) (r : ℕ → RectToPlace) (leads : List ℕ) (count : ℕ) (l
   unfolding groupsOf
   group-next i h =
       let e : getD (groupOrder n r) i 0 ≡ getD leads i 0 = rw (← (listed .front)) (getD-take count leads i 0 h) in
-      rw add-one (drop-cons (groupsOf n r) i (members n r 0) (omega (arith, groups-long))) ∙ rw (List·getD-map (members n r) (groupOrder n r) i 0, e)
+      rw (add-one, drop-cons (groupsOf n r) i (members n r 0) (omega (arith, groups-long)), List·getD-map (members n r) (groupOrder n r) i 0, e)
 
   -- the first index of a group is its lead
   lead-is : (i : ℕ) → i < count → getD (members n r (getD leads i 0)) 0 0 ≡ getD leads i 0

@@ -13,13 +13,13 @@ use Rattle.lists.proofs.Lowests.{None}
 use Rattle.lists.proofs.Tabs.{length-put}
 use Rattle.bin_section.specs.declared.section.BinSection.{BinSection}
 use Rattle.sections.specs.Sections.{sections}
-use Rattle.sections.specs.Changes.{ZeroPast}
-use Rattle.placing.specs.Place.{Reaching}
+use Rattle.sections.specs.Leaning.{ZeroPast}
+use Rattle.placing.specs.Leaning.{Reaching}
 use Rattle.placing.proofs.Reaches.{reaching-each, each-reaching}
 use Rattle.packing_rules.specs.Rules.{stops, whole, placeGroup}
 use Rattle.target_bin.specs.declared.chamber.TargetBin.{TargetBin}
 use Rattle.target_bin.specs.Chambers.{chamberAt, chamberCount}
-use Rattle.target_bin.specs.Lending.{OnlyIn}
+use Rattle.target_bin.specs.Leaning.{OnlyIn}
 use Rattle.target_bin.specs.Store.{partAt, freeAt, freeOf}
 use Rattle.target_bin.proofs.Parts.{length-partAt, partAt-put-same, partAt-put-other, only-in, lent-part, getD-freeOf, free-set}
 use Rattle.target_bin.proofs.Tables.{chamberAt-set-same, chamberAt-set-other}
@@ -199,7 +199,7 @@ module _ (c st p p′ : List ℕ) (k m n : ℕ) (r : ℕ → RectToPlace) (group
       let v = is-whole (trialIn r group (freeOf c st) k) w in
       let at-free : getD (freeOf c st) k [] ≡ sections (take (k * 768 + 768 - k * 768) (drop (k * 768) st)) (bin .count) =
       rw (lent-part st k, count-read) (getD-freeOf c st k [] here) in
-      let g : placeGroup (sections (take (k * 768 + 768 - k * 768) (drop (k * 768) st)) (bin .count)) (rectsAt r group) ≡ whole (v .0) (v .1) = rw at-free at (v .2) in
+      let g : placeGroup (sections (take (k * 768 + 768 - k * 768) (drop (k * 768) st)) (bin .count)) (rectsAt r group) ≡ whole (v .0) (v .1) = ap (λ (x : List BinSection). placeGroup x (rectsAt r group)) (sym at-free) ∙ v .2 in
       rw (changed-is (λ j. chamberAt c j .id) r group (state (freeOf c st) seats) k (v .0) (v .1) (v .2))
       (record {
         frees =

@@ -7,12 +7,11 @@ use native.Mathlib.Omega.{arith}
 use lib.ListN.{length, take, drop}
 use lib.Seq.{ext-getD}
 use Rattle.sections.specs.Sections.{sections}
-use Rattle.sections.specs.Changes.{ZeroPast, Cleared}
+use Rattle.sections.specs.Leaning.{ZeroPast, Cleared}
 use Rattle.lists.proofs.Tabs.{length-tab, getD-tab}
 use Rattle.target_bin.specs.declared.chamber.TargetBin.{TargetBin}
 use Rattle.target_bin.specs.Chambers.{chamberAt, chamberCount}
-use Rattle.target_bin.specs.Checks.{Shaped}
-use Rattle.target_bin.specs.Lending.{InChamber}
+use Rattle.target_bin.specs.Leaning.{Shaped, ChangedIn}
 use Rattle.target_bin.specs.Store.{partAt, freeAt, freeOf}
 use Rattle.target_bin.proofs.Parts.{length-partAt, lent-part}
 use Rattle.rectangle_pack.specs.Leaning.{Tidied, Ready}
@@ -40,7 +39,7 @@ module _ (c st₀ : List ℕ) where
       → Tidying c st₀ i st
       → i < chamberCount c
       → length st′ ≡ length st
-      → InChamber (Cleared (chamberAt c i .count)) i st st′
+      → ChangedIn (Cleared (chamberAt c i .count)) i st st′
       → Tidying c st₀ (i + 1) st′
   tidying-more i st st′ t h long d =
       record {

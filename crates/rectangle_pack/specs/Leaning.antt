@@ -7,17 +7,18 @@ use Rattle.bin_section.specs.declared.rect_to_insert.RectToInsert.{RectToInsert
 use Rattle.bin_section.specs.declared.section.BinSection.{BinSection}
 use Rattle.bin_section.specs.Sides.{Small}
 use Rattle.sections.specs.Sections.{sections}
-use Rattle.sections.specs.Changes.{ZeroPast}
+use Rattle.sections.specs.Leaning.{ZeroPast}
 use Rattle.try_place.specs.declared.packed_location.PackedLocation.{PackedLocation}
-use Rattle.placing.specs.Place.{Reaching}
+use Rattle.placing.specs.Leaning.{Reaching}
 use Rattle.packing_rules.specs.Rules.{whole, placeGroup}
 use mathlib.Core.Bool.{Bool, true, false}
 use Rattle.target_bin.specs.Chambers.{chamberAt, chamberCount}
-use Rattle.target_bin.specs.Checks.{Shaped}
+use Rattle.target_bin.specs.Leaning.{Shaped}
 use Rattle.target_bin.specs.Store.{partAt, freeOf}
 use Rattle.grouped_rects_to_place.specs.declared.rect_to_place.RectToPlace.{RectToPlace}
 use Rattle.replies.specs.declared.reply.Reply.{Reply}
-use Rattle.grouped_rects_to_place.specs.Rect.{rectAt, rectWidth, rectCount, GoodRects}
+use Rattle.grouped_rects_to_place.specs.Rect.{rectAt, rectWidth, rectCount}
+use Rattle.grouped_rects_to_place.specs.Leaning.{GoodRects}
 use Rattle.placement.specs.Placements.{placementWidth}
 use Rattle.packing_rules.specs.Packing.{State, state, rectsAt, trialIn, isWhole, changed, Ended, packGroups}
 use Rattle.packing_rules.specs.Promises.{Serves, NoneServes}
@@ -131,7 +132,7 @@ pub record Tidied (c st st′ : List ℕ) : Type 0 where
 
 -- the packing of the groups from this state has ended so
 pub record PackedTo (e : Ended) (c : List ℕ) (answer : Reply) (c′ st′ p′ : List ℕ) : Type 0 where
-  pub answers : answer ≡ e .answer
+  pub answers : answer ≡ e .reply
   pub holds : ChangedTo (e .after) c′ st′ p′
   pub same : SameShape c c′
   pub shaped : Shaped c′ st′

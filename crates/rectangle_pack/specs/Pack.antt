@@ -41,19 +41,19 @@ binsWith chambers frees =
     tab (chamberCount chambers) (λ k. bin (chamberAt chambers k .id) (chamberAt chambers k .whd) (length (getD frees k [])))
 
 pub record PackOutcome : Type 0 where
-  pub answer : Reply
+  pub reply : Reply
   pub chambers : List ℕ
   pub store : List ℕ
   pub placements : List ℕ
 
 abbrev pub packOutcome : Reply → List ℕ → List ℕ → List ℕ → PackOutcome
 packOutcome answer chambers store placements =
-    record { answer = answer; chambers = chambers; store = store; placements = placements }
+    record { reply = answer; chambers = chambers; store = store; placements = placements }
 
 -- "After pack answers 0 or 7, words past each count are 0 and every placement record is written."
 unfoldable pub written : List ℕ → Ended → PackOutcome
 written chambers e =
-    packOutcome (e .answer) (tableOf (binsWith chambers (e .after .frees))) (storeOf (e .after .frees)) (placementsOf (e .after .seats))
+    packOutcome (e .reply) (tableOf (binsWith chambers (e .after .frees))) (storeOf (e .after .frees)) (placementsOf (e .after .seats))
 
 -- "Every refusal but 7 writes nothing."
 unfoldable pub packOf : List ℕ → List ℕ → List ℕ → List ℕ → PackOutcome

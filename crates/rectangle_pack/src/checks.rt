@@ -5,7 +5,7 @@ ghost use lib.ListN.{length};
 ghost use Rattle.lists.specs.Lowest.{lowest};
 ghost use Rattle.replies.specs.Replies.{reply, inOrder};
 ghost use Rattle.target_bin.specs.Chambers.{chamberCount};
-ghost use Rattle.target_bin.specs.Checks.{Counted};
+ghost use Rattle.target_bin.specs.Leaning.{Counted};
 ghost use Rattle.rectangle_pack.specs.Pack.{rectLengthsOk, rectChecks, packChecks};
 ghost use Rattle.grouped_rects_to_place.specs.Rect.{rectWidth, rectCount};
 ghost use Rattle.packing_rules.specs.Packing.{noRoom};

@@ -5,7 +5,7 @@ ghost use lib.ListN.{length, take};
 ghost use Rattle.target_bin.specs.Chambers.{chamberCount};
 ghost use Rattle.target_bin.specs.Store.{freeOf};
 ghost use Rattle.grouped_rects_to_place.specs.Rect.{rectAt, rectCount};
-ghost use Rattle.placement.specs.Placements.{HasPlacements};
+ghost use Rattle.placement.specs.Leaning.{HasPlacements};
 ghost use Rattle.packing_rules.specs.Packing.{trialIn, isWhole};
 ghost use Rattle.rectangle_pack.specs.Leaning.{GroupOf, Indices, Ready, FirstFit, Served, Grouped};
 use crate::trial::commit;

@@ -2,13 +2,13 @@
 ghost use mathlib.Core.Path.{_≡_};
 ghost use Prim.Native.Nat.{_+_, _*_, _≤_, _<_};
 ghost use lib.ListN.{length, take};
-ghost use Rattle.sections.specs.Changes.{Cleared};
+ghost use Rattle.sections.specs.Leaning.{Cleared};
 ghost use Rattle.target_bin.specs.Chambers.{chamberAt, chamberCount};
-ghost use Rattle.target_bin.specs.Checks.{Shaped};
-ghost use Rattle.target_bin.specs.Lending.{InChamber};
-ghost use Rattle.grouped_rects_to_place.specs.Rect.{rectAt, rectCount, HasRects, GoodRects};
-ghost use Rattle.placement.specs.Placements.{HasPlacements};
-ghost use Rattle.grouped_rects_to_place.specs.Groups.{members, groupOrder, Listed};
+ghost use Rattle.target_bin.specs.Leaning.{Shaped, ChangedIn};
+ghost use Rattle.grouped_rects_to_place.specs.Rect.{rectAt, rectCount};
+ghost use Rattle.grouped_rects_to_place.specs.Leaning.{HasRects, GoodRects, Listed};
+ghost use Rattle.placement.specs.Leaning.{HasPlacements};
+ghost use Rattle.grouped_rects_to_place.specs.Groups.{members, groupOrder};
 ghost use Rattle.packing_rules.specs.Order.{trialOrder};
 ghost use Rattle.rectangle_pack.specs.Pack.{packOutcome, written, packOf};
 ghost use Rattle.packing_rules.specs.Packing.{packing};
@@ -27,7 +27,7 @@ use target_bin::TargetBin;
 // "words past each count are 0", of one chamber.
 fn clear_tail(chambers: &[u32], store: &mut [u32], k: usize)
     requires { ⌜ Shaped (now chambers) (now store) × (k < chamberCount (now chambers)) ⌝ }
-    ensures { λ _. ⌜ InChamber (Cleared (chamberAt (now (chambers .entry)) k .count)) k (now (store .entry)) (now (store .exit)) ⌝ }
+    ensures { λ _. ⌜ ChangedIn (Cleared (chamberAt (now (chambers .entry)) k .count)) k (now (store .entry)) (now (store .exit)) ⌝ }
 {
     let bin = TargetBin::read(chambers, k);
     let start = k * TargetBin::STORE;

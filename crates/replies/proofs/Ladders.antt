@@ -61,10 +61,23 @@ abbrev pub AllPass : {A : Type 0} → List (Check A) → Type 0
 AllPass [] = Unit
 AllPass (c ∷ cs) = (c .fires ≡ false) × AllPass cs
 
--- no check of the row answers 0, by the number of an answer. It is so by computing: each check names its number.
+-- a test of each answer of the row. It computes: each check names its number.
+abbrev pub eachAnswer : {A : Type 0} → (A → Bool) → List (Check A) → Bool
+eachAnswer test [] = true
+eachAnswer test (c ∷ cs) = test (c .answer) && eachAnswer test cs
+
+pub answer-is : {A : Type 0} (test : A → Bool) (cs : List (Check A)) (r : A) → eachAnswer test cs ≡ true → test r ≡ true → test (inOrder cs (λ a. a) r) ≡ true
+unfolding inOrder
+answer-is test [] r all h = h
+answer-is test (c ∷ cs) r all h = go (answer-is test cs r (and-second (test (c .answer)) (eachAnswer test cs) all) h) (c .fires)
+  where
+    go : test (inOrder cs (λ a. a) r) ≡ true → (b : Bool) → test (cond b (c .answer) (inOrder cs (λ a. a) r)) ≡ true
+    go rest true = and-first (test (c .answer)) (eachAnswer test cs) all
+    go rest false = rest
+
+-- no check of the row answers 0, by the number of an answer
 abbrev pub numbered : {A : Type 0} → (A → ℕ) → List (Check A) → Bool
-numbered number [] = true
-numbered number (c ∷ cs) = ltb 0 (number (c .answer)) && numbered number cs
+numbered number cs = eachAnswer (λ a. ltb 0 (number a)) cs
 
 -- a row that ends with 0: each of its checks passes
 module _ {A B : Type 0} (number : B → ℕ) (f : A → B) (d : B) where

@@ -12,10 +12,10 @@ use Rattle.lists.proofs.Tabs.{tab-suc, length-put, getD-put-in, getD-put-before
 use Rattle.words.specs.Words.{without}
 use Rattle.words.proofs.Records as records
 use Rattle.bin_section.specs.declared.section.BinSection.{BinSection}
-use Rattle.bin_section.specs.Section.{sectionAt, wordsOf, zeroSection}
+use Rattle.bin_section.specs.Section.{sectionAt, sectionWords, zeroSection}
 use Rattle.bin_section.proofs.Words.{section-layout}
 use Rattle.sections.specs.Sections.{sections, allWords}
-use Rattle.sections.specs.Changes.{Removed, Appended, ZeroPast, Cleared}
+use Rattle.sections.specs.Leaning.{Removed, Appended, ZeroPast, Cleared}
 use Rattle.sections.proofs.Reading.{sectionAt-put-same, sectionAt-put-other, sections-ext, encoded, word-of}
 
 pub removed : (w w′ : List ℕ) (count i : ℕ) → i < count → count * 6 ≤ length w → w′ ≡ without (i * 6) 6 ((count - (i + 1)) * 6) w → Removed count i w w′
@@ -23,15 +23,15 @@ unfolding sections sectionAt
 removed w w′ count i low room e =
     rw e
     (record {
-      free = records.taken-out 6 sectionAt (λ b. wordsOf b) section-layout w count i low room;
-      freed = records.taken-last 6 sectionAt (λ b. wordsOf b) section-layout w count i low room;
-      past = records.taken-past 6 sectionAt (λ b. wordsOf b) section-layout w count i low room;
+      free = records.taken-out 6 sectionAt (λ b. sectionWords b) section-layout w count i low room;
+      freed = records.taken-last 6 sectionAt (λ b. sectionWords b) section-layout w count i low room;
+      past = records.taken-past 6 sectionAt (λ b. sectionWords b) section-layout w count i low room;
     })
 
-pub appended : (w : List ℕ) (count : ℕ) (s : BinSection) → count * 6 + 6 ≤ length w → Appended count s w (put w (count * 6) (wordsOf s))
+pub appended : (w : List ℕ) (count : ℕ) (s : BinSection) → count * 6 + 6 ≤ length w → Appended count s w (put w (count * 6) (sectionWords s))
 unfolding sections
 appended w count s room =
-    let w′ : List ℕ = put w (count * 6) (wordsOf s) in
+    let w′ : List ℕ = put w (count * 6) (sectionWords s) in
     let first : sections w′ count ≡ sections w count = sections-ext w′ w count (λ k h. sectionAt-put-other w count s room k (λ e. omega arith)) in
     record {
       words = refl;
@@ -51,7 +51,7 @@ zeros-removed {count} {i} {w} {v} h r z = record { zeros = λ k above. go k abov
 pub zeros-appended : {count : ℕ} {s : BinSection} {w v : List ℕ} → Appended count s w v → ZeroPast count w → ZeroPast (count + 1) v
 zeros-appended a z = record { zeros = λ k above. a .past k (omega arith) ∙ z .zeros k (omega arith) }
 
-six-zeros : (m : ℕ) → getD (wordsOf zeroSection) m 0 ≡ 0
+six-zeros : (m : ℕ) → getD (sectionWords zeroSection) m 0 ≡ 0
 six-zeros zero = refl
 six-zeros (suc zero) = refl
 six-zeros (suc (suc zero)) = refl
@@ -97,7 +97,7 @@ module _ (w : List ℕ) (count : ℕ) (room : count * 6 ≤ length w) where
   zeros-past : ZeroPast count F
   unfolding sectionAt
   zeros-past =
-      record { zeros = λ i b. records.at-first 6 sectionAt (λ s. wordsOf s) section-layout F [] i (λ m l. past (i * 6 + m) (omega arith) (decLt (i * 6 + m) (length w))) }
+      record { zeros = λ i b. records.at-first 6 sectionAt (λ s. sectionWords s) section-layout F [] i (λ m l. past (i * 6 + m) (omega arith) (decLt (i * 6 + m) (length w))) }
 
   pub cleared : (w′ : List ℕ) → w′ ≡ put w (count * 6) (replicate (length w - count * 6) 0) → Cleared count w w′
   unfolding put

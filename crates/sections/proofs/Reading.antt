@@ -9,16 +9,16 @@ use Rattle.lists.specs.Tab.{tab, put}
 use Rattle.lists.proofs.Tabs.{length-tab, getD-tab}
 use Rattle.words.proofs.Records as records
 use Rattle.bin_section.specs.declared.section.BinSection.{BinSection}
-use Rattle.bin_section.specs.Section.{sectionAt, wordsOf, zeroSection}
+use Rattle.bin_section.specs.Section.{sectionAt, sectionWords, zeroSection}
 use Rattle.bin_section.proofs.Words.{section-layout}
 use Rattle.sections.specs.Sections.{sections, allWords}
 
 module _ (w : List ℕ) (i : ℕ) (s : BinSection) (fits : i * 6 + 6 ≤ length w) where
-  pub sectionAt-put-same : sectionAt (put w (i * 6) (wordsOf s)) i ≡ s
-  sectionAt-put-same = records.at-put-same 6 sectionAt (λ b. wordsOf b) section-layout w i s fits
+  pub sectionAt-put-same : sectionAt (put w (i * 6) (sectionWords s)) i ≡ s
+  sectionAt-put-same = records.at-put-same 6 sectionAt (λ b. sectionWords b) section-layout w i s fits
 
-  pub sectionAt-put-other : (k : ℕ) → (k ≡ i → ⊥) → sectionAt (put w (i * 6) (wordsOf s)) k ≡ sectionAt w k
-  sectionAt-put-other = records.at-put-other 6 sectionAt (λ b. wordsOf b) section-layout w i s fits
+  pub sectionAt-put-other : (k : ℕ) → (k ≡ i → ⊥) → sectionAt (put w (i * 6) (sectionWords s)) k ≡ sectionAt w k
+  sectionAt-put-other = records.at-put-other 6 sectionAt (λ b. sectionWords b) section-layout w i s fits
 
 -- ---- the first n sections
 
@@ -40,13 +40,13 @@ sections-ext w v n h =
 
 pub encoded : (w : List ℕ) (n : ℕ) → n * 6 ≤ length w → allWords (sections w n) ≡ take (n * 6) w
 unfolding sections
-encoded = records.encoded 6 sectionAt (λ b. wordsOf b) section-layout
+encoded = records.encoded 6 sectionAt (λ b. sectionWords b) section-layout
 
 pub decoded : (l : List BinSection) (w : List ℕ) (n : ℕ) → length l ≡ n → take (n * 6) w ≡ allWords l → sections w n ≡ l
 unfolding sections
-decoded l w n = records.decoded 6 sectionAt (λ b. wordsOf b) section-layout l w n zeroSection
+decoded l w n = records.decoded 6 sectionAt (λ b. sectionWords b) section-layout l w n zeroSection
 
 -- a word is a word of its section
-pub word-of : (w : List ℕ) (k m : ℕ) → k * 6 + 6 ≤ length w → m < 6 → getD w (k * 6 + m) 0 ≡ getD (wordsOf (sectionAt w k)) m 0
+pub word-of : (w : List ℕ) (k m : ℕ) → k * 6 + 6 ≤ length w → m < 6 → getD w (k * 6 + m) 0 ≡ getD (sectionWords (sectionAt w k)) m 0
 word-of w k m room h =
     sym (ap (λ (l : List ℕ). getD l m 0) (section-layout .written-back w k room) ∙ getD-take 6 (drop (k * 6) w) m 0 h ∙ getD-drop (k * 6) w m 0)

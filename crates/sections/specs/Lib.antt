@@ -1,3 +1,3 @@
 pub mod Sections
 pub mod Inside
-pub mod Changes
+pub mod Leaning

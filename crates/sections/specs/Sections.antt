@@ -4,7 +4,7 @@ use mathlib.Core.List.{List}
 use Rattle.lists.specs.Tab.{tab}
 use Rattle.bin_section.specs.declared.section.BinSection.{BinSection}
 use Rattle.words.specs.Words.{joined}
-use Rattle.bin_section.specs.Section.{sectionAt, wordsOf}
+use Rattle.bin_section.specs.Section.{sectionAt, sectionWords}
 
 -- the first n sections, "first one first"
 unfoldable pub sections : List ℕ → ℕ → List BinSection
@@ -12,4 +12,4 @@ sections w n = tab n (sectionAt w)
 
 -- the words of a list of sections
 abbrev pub allWords : List BinSection → List ℕ
-allWords = joined (λ s. wordsOf s)
+allWords = joined (λ s. sectionWords s)

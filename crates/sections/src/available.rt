@@ -2,7 +2,7 @@
 ghost use mathlib.Core.Path.{_≡_};
 ghost use Prim.Native.Nat.{_+_, _*_, _≤_, _<_};
 ghost use lib.ListN.{length};
-ghost use Rattle.sections.specs.Changes.{Removed, Appended, Cleared};
+ghost use Rattle.sections.specs.Leaning.{Removed, Appended, Cleared};
 use bin_section::BinSection;
 use words::fill;
 use words::take_out;

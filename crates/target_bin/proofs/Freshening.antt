@@ -10,12 +10,12 @@ use lib.Seq.{take-at, drop-at, drop-drop, getD-append-add, getD-drop}
 use Rattle.lists.specs.Tab.{tab, put}
 use Rattle.lists.proofs.Tabs.{length-put}
 use Rattle.bin_section.specs.declared.section.BinSection.{BinSection}
-use Rattle.bin_section.specs.Section.{wholeSection, wordsOf}
+use Rattle.bin_section.specs.Section.{wholeSection, sectionWords}
 use Rattle.replies.specs.Replies.{reply}
 use Rattle.lists.specs.Lowest.{lowest}
 use Rattle.words.specs.Words.{joined}
 use Rattle.sections.specs.Sections.{sections, allWords}
-use Rattle.sections.specs.Changes.{Cleared}
+use Rattle.sections.specs.Leaning.{Cleared}
 use Rattle.words.proofs.Records.{length-joined-tab, partly, partly-more, partly-all}
 use Rattle.sections.proofs.Moves.{appended}
 use Rattle.target_bin.specs.declared.chamber.TargetBin.{TargetBin}
@@ -34,12 +34,12 @@ wholeOf b = wholeSection (b .whd) ∷ []
 -- ---- one chamber
 
 -- the whole chamber written first, and the rest cleared
-pub fresh-part : (w v u : List ℕ) (s : BinSection) → length w ≡ 768 → v ≡ put w 0 (wordsOf s) → Cleared 1 v u → u ≡ partOf (s ∷ [])
+pub fresh-part : (w v u : List ℕ) (s : BinSection) → length w ≡ 768 → v ≡ put w 0 (sectionWords s) → Cleared 1 v u → u ≡ partOf (s ∷ [])
 unfolding partOf sections tab
 fresh-part w v u s long wrote c =
     let a = appended w 0 s (omega arith) in
     let one : sections v 1 ≡ s ∷ [] = ap (λ (x : List ℕ). sections x 1) wrote ∙ a .free in
-    let n : length v - 1 * 6 ≡ 768 - 1 * 6 = ap (λ (x : List ℕ). length x - 1 * 6) wrote ∙ omega (arith, length-put w 0 (wordsOf s) (omega arith)) in
+    let n : length v - 1 * 6 ≡ 768 - 1 * 6 = ap (λ (x : List ℕ). length x - 1 * 6) wrote ∙ omega (arith, length-put w 0 (sectionWords s) (omega arith)) in
     c .words ∙ ap₂ (λ (l : List BinSection) (m : ℕ). allWords l ++ replicate m 0) one n
 
 pub fresh-record : (w w′ : List ℕ) (i : ℕ) (b d : TargetBin) → w′ ≡ put w (i * 5) (binWords d) → d ≡ freshBin (b .id) (b .whd) → b ≡ chamberAt w i → w′ ≡ put w (i * 5) (binWords (freshened (chamberAt w i)))

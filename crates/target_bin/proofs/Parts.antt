@@ -10,16 +10,15 @@ use lib.Seq.{length-take-le, getD-take, getD-drop, ext-getD, take-at, drop-at, t
 use Rattle.lists.specs.Tab.{tab, put}
 use Rattle.lists.proofs.Tabs.{length-tab, getD-tab, tab-set, length-put, getD-put-before, getD-put-after, lent}
 use Rattle.bin_section.specs.declared.section.BinSection.{BinSection}
-use Rattle.bin_section.specs.Section.{wordsOf, zeroSection}
+use Rattle.bin_section.specs.Section.{sectionWords, zeroSection}
 use Rattle.sections.specs.Sections.{sections, allWords}
-use Rattle.sections.specs.Changes.{ZeroPast}
+use Rattle.sections.specs.Leaning.{ZeroPast}
 use Rattle.words.proofs.Records.{length-joined, joined-take, joined-part}
 use Rattle.sections.proofs.Reading.{decoded, length-sections}
 use Rattle.sections.proofs.Moves.{part-words}
 use Rattle.target_bin.specs.Chambers.{chamberAt, chamberCount}
 use Rattle.target_bin.specs.Store.{partAt, freeAt, freeOf, partOf, storeOf}
-use Rattle.target_bin.specs.Lending.{OnlyIn, InChamber}
-use Rattle.target_bin.specs.Checks.{Counted, Shaped}
+use Rattle.target_bin.specs.Leaning.{OnlyIn, ChangedIn, Counted, Shaped}
 
 -- ---- one chamber's part
 
@@ -64,14 +63,14 @@ module _ (w : List ℕ) (c : ℕ) (ys : List ℕ) (room : (c + 1) * 768 ≤ leng
         others = partAt-put-other;
       }
 
-lend′ : (P : List ℕ → List ℕ → Type 0) (w ys : List ℕ) (c k : ℕ) → length ys ≡ length (take k (drop (c * 768) w)) → P (take k (drop (c * 768) w)) ys → k ≡ 768 → (c + 1) * 768 ≤ length w → InChamber P c w (putMid (c * 768) k w ys)
+lend′ : (P : List ℕ → List ℕ → Type 0) (w ys : List ℕ) (c k : ℕ) → length ys ≡ length (take k (drop (c * 768) w)) → P (take k (drop (c * 768) w)) ys → k ≡ 768 → (c + 1) * 768 ≤ length w → ChangedIn P c w (putMid (c * 768) k w ys)
 unfolding partAt
 lend′ P w ys c k kept ensured e room =
     let long : length ys ≡ 768 = kept ∙ simp (e, length-take, length-drop) (omega arith) in
     rw (lent w ys (c * 768) k (long ∙ sym e)) (record { here = rw (partAt-put-same w c ys room long) (rw e at ensured); only = only-in w c ys room long })
 
 -- a chamber's part lent to a callee, which says P of the part before and after
-pub lend : (P : List ℕ → List ℕ → Type 0) (w ys : List ℕ) (c : ℕ) → length ys ≡ length (take (c * 768 + 768 - c * 768) (drop (c * 768) w)) → P (take (c * 768 + 768 - c * 768) (drop (c * 768) w)) ys → (c + 1) * 768 ≤ length w → InChamber P c w (putMid (c * 768) (c * 768 + 768 - c * 768) w ys)
+pub lend : (P : List ℕ → List ℕ → Type 0) (w ys : List ℕ) (c : ℕ) → length ys ≡ length (take (c * 768 + 768 - c * 768) (drop (c * 768) w)) → P (take (c * 768 + 768 - c * 768) (drop (c * 768) w)) ys → (c + 1) * 768 ≤ length w → ChangedIn P c w (putMid (c * 768) (c * 768 + 768 - c * 768) w ys)
 lend P w ys c kept ensured room = lend′ P w ys c (c * 768 + 768 - c * 768) kept ensured (omega arith) room
 
 -- the part as it is lent
@@ -96,14 +95,14 @@ only-trans p q = record { before = q .before ∙ p .before; after = q .after ∙
 pub length-partOf : (free : List BinSection) → length free ≤ 128 → length (partOf free) ≡ 768
 unfolding partOf
 length-partOf free h =
-    let e : length (allWords free) ≡ length free * 6 = length-joined (λ s. wordsOf s) 6 free zeroSection (λ i b. refl) in
+    let e : length (allWords free) ≡ length free * 6 = length-joined (λ s. sectionWords s) 6 free zeroSection (λ i b. refl) in
     simp (length-append, e, length-replicate) (omega arith)
 
 pub sections-partOf : (free : List BinSection) → sections (partOf free) (length free) ≡ free
 unfolding partOf
 sections-partOf free =
     decoded free (allWords free ++ replicate (768 - length free * 6) 0) (length free) refl
-    (take-at (allWords free) (replicate (768 - length free * 6) 0) (length free * 6) (length-joined (λ s. wordsOf s) 6 free zeroSection (λ i b. refl)))
+    (take-at (allWords free) (replicate (768 - length free * 6) 0) (length free * 6) (length-joined (λ s. sectionWords s) 6 free zeroSection (λ i b. refl)))
 
 pub length-freeOf : (chambers store : List ℕ) → length (freeOf chambers store) ≡ chamberCount chambers
 unfolding freeOf

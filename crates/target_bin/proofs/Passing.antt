@@ -21,7 +21,8 @@ use Rattle.bin_section.proofs.Bounding.{inside→, →inside}
 use Rattle.bin_section.proofs.Ranges.{SidesInRange, sides→range, range→sides}
 use Rattle.target_bin.specs.Chambers.{chamberAt, chamberCount}
 use Rattle.target_bin.specs.Store.{partAt}
-use Rattle.target_bin.specs.Checks.{lengthsOk, idOk, shapeOk, chamberOk, badShape, badChamber, badSections, check1, check2, check3, tableChecks, Counted, Shaped}
+use Rattle.target_bin.specs.Checks.{lengthsOk, idOk, shapeOk, chamberOk, badShape, badChamber, badSections, check1, check2, check3, tableChecks}
+use Rattle.target_bin.specs.Leaning.{Counted, Shaped}
 use Rattle.target_bin.proofs.Checking.{lengths-store}
 use Rattle.replies.proofs.Ladders.{AllPass, row-passes, no-fault, none-passes}
 

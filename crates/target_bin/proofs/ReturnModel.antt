@@ -16,7 +16,7 @@ use Rattle.lists.proofs.Flags.{true-false}
 use Rattle.lists.proofs.Lowests.{lowest-fires, lowest-none}
 use Rattle.bin_section.specs.declared.section.BinSection.{BinSection}
 use Rattle.replies.specs.declared.reply.Reply.{Reply}
-use Rattle.bin_section.specs.Section.{sectionAt, wordsOf}
+use Rattle.bin_section.specs.Section.{sectionAt, sectionWords}
 use Rattle.bin_section.specs.Sides.{sides}
 use Rattle.bin_section.specs.Cell.{SharesCell}
 use Rattle.bin_section.proofs.Sharing.{shares→overlaps, overlaps→shares}
@@ -31,7 +31,7 @@ use Rattle.sections.proofs.Reading.{sectionAt-put-same, sectionAt-put-other}
 use Rattle.target_bin.specs.declared.chamber.TargetBin.{TargetBin}
 use Rattle.target_bin.specs.Chambers.{bin, chamberAt, chamberCount, chambersOf, hasId, chamberOf}
 use Rattle.target_bin.specs.Store.{partAt, freeAt, freeOf}
-use Rattle.target_bin.specs.Lending.{OnlyIn}
+use Rattle.target_bin.specs.Leaning.{OnlyIn}
 use Rattle.target_bin.specs.Checks.{badChamber, badSections, check1, check2, check3, tableChecks}
 use Rattle.target_bin.specs.Outcome.{Outcome, outcome, refused}
 use Rattle.target_bin.specs.Return.{pushChecks, returnChecks, stored, returned, returnOf}
@@ -49,7 +49,7 @@ chambersAfter chambers k = set chambers (k * 5 + 4) (chamberAt chambers k .count
 
 -- the store with the box after the last section of chamber k
 abbrev pub storeAfter : List ℕ → List ℕ → ℕ → BinSection → List ℕ
-storeAfter chambers store k box = put store (k * 768 + chamberAt chambers k .count * 6) (wordsOf box)
+storeAfter chambers store k box = put store (k * 768 + chamberAt chambers k .count * 6) (sectionWords box)
 
 module _ (chambers store : List ℕ) (k : ℕ) (box : BinSection) (sound : Sound chambers store) (low : k < chamberCount chambers) (small : chamberAt chambers k .count < 128) where
   abbrev n : ℕ
@@ -72,14 +72,14 @@ module _ (chambers store : List ℕ) (k : ℕ) (box : BinSection) (sound : Sound
   stored-chambers = chambers-set chambers k (n + 1) in-table
 
   abbrev Q : List ℕ
-  Q = put (partAt store k) (n * 6) (wordsOf box)
+  Q = put (partAt store k) (n * 6) (sectionWords box)
 
   long-Q : length Q ≡ 768
-  long-Q = length-put (partAt store k) (n * 6) (wordsOf box) (omega (arith, length-partAt store k in-store)) ∙ length-partAt store k in-store
+  long-Q = length-put (partAt store k) (n * 6) (sectionWords box) (omega (arith, length-partAt store k in-store)) ∙ length-partAt store k in-store
 
   as-part : left ≡ put store (k * 768) Q
   unfolding partAt
-  as-part = sym (put-in-part store (k * 768) 768 (omega (arith, in-store)) (n * 6) (wordsOf box) (omega arith))
+  as-part = sym (put-in-part store (k * 768) 768 (omega (arith, in-store)) (n * 6) (sectionWords box) (omega arith))
 
   pub stored-only : OnlyIn k store left
   stored-only = rw as-part (only-in store k Q in-store long-Q)
@@ -142,7 +142,7 @@ module _ (chambers store : List ℕ) (k : ℕ) (box : BinSection) (sound : Sound
           shaped = record {
             few = omega (arith, same-many, sound .shaped .few);
             whole = omega (arith, same-many, length-set chambers (k * 5 + 4) (n + 1), sound .shaped .whole);
-            long = omega (arith, same-many, length-put store (k * 768 + n * 6) (wordsOf box) (omega (arith, in-store)), sound .shaped .long);
+            long = omega (arith, same-many, length-put store (k * 768 + n * 6) (sectionWords box) (omega (arith, in-store)), sound .shaped .long);
             counted = record { counts = λ i h. count-small i (omega (arith, same-many)) (ℕ-discrete i k) };
           };
           shapes-ok = record {

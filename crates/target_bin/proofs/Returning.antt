@@ -12,7 +12,7 @@ use Rattle.lists.specs.Lowest.{lowest, anyBelow}
 use Rattle.lists.specs.Tab.{put}
 use Rattle.bin_section.specs.declared.section.BinSection.{BinSection}
 use Rattle.replies.specs.declared.reply.Reply.{Reply}
-use Rattle.bin_section.specs.Section.{wordsOf}
+use Rattle.bin_section.specs.Section.{sectionWords}
 use Rattle.replies.specs.Replies.{Check, reply, once, each, inOrder}
 use Rattle.sections.specs.Inside.{insideOf, sharesAt}
 use Rattle.target_bin.specs.declared.chamber.TargetBin.{TargetBin}
@@ -56,7 +56,7 @@ module _ (chambers store : List ℕ) (id : ℕ) (box : BinSection) where
 
       module _ (ys : List ℕ) (answer : Reply) (long : length ys ≡ length L)
           (replied : answer ≡ inOrder row (λ a. a) (reply 0 (b .count)))
-          (left : ys ≡ inOrder row (λ a. L) (put L (b .count * 6) (wordsOf box))) where
+          (left : ys ≡ inOrder row (λ a. L) (put L (b .count * 6) (sectionWords box))) where
         came : putMid (k * 768) (k * 768 + 768 - k * 768) store ys ≡ put store (k * 768) ys
         came = came-back store ys k (long ∙ ap length (lent-part store k) ∙ length-partAt store k room)
 
@@ -73,8 +73,8 @@ module _ (chambers store : List ℕ) (id : ℕ) (box : BinSection) where
         pub return-accepted : (after : List ℕ) → answer .number ≡ 0 → b .count < 128 → after ≡ set chambers (k * 5 + 4) (b .count + 1) → outcome answer after (putMid (k * 768) (k * 768 + 768 - k * 768) store ys) ≡ decided
         return-accepted after z small counted =
             let said : answer ≡ reply 0 (b .count) = replied ∙ past-all (λ a. a) _ row (passed z) in
-            let wrote : ys ≡ put L (b .count * 6) (wordsOf box) = left ∙ past-all (λ a. L) _ row (passed z) in
-            rw (came, wrote, said, counted, put-in-part store (k * 768) (k * 768 + 768 - k * 768) (omega arith) (b .count * 6) (wordsOf box) (omega arith))
+            let wrote : ys ≡ put L (b .count * 6) (sectionWords box) = left ∙ past-all (λ a. L) _ row (passed z) in
+            rw (came, wrote, said, counted, put-in-part store (k * 768) (k * 768 + 768 - k * 768) (omega arith) (b .count * 6) (sectionWords box) (omega arith))
             (sym (past8 ∙ past-all _ _ row (passed z)))
 
         -- an accepted return found room

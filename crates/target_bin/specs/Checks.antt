@@ -1,6 +1,5 @@
 -- Checks 1, 2 and 3. Fresh makes 1 and 2 without the counts; pack and return make all three first.
-use Prim.Native.Nat.{ℕ, zero, suc, _*_, _%_, _≤_, _<_}
-use mathlib.Core.Path.{_≡_}
+use Prim.Native.Nat.{ℕ, zero, suc, _*_, _%_}
 use mathlib.Core.List.{List, [], _∷_}
 use mathlib.Core.Bool.{Bool, true, _&&_, not}
 use lib.ListN.{length}
@@ -63,14 +62,3 @@ check3 chambers store = each (reply 3) (chamberCount chambers) (badSections cham
 -- "Checks go in this order, each over the whole table before the next."
 abbrev pub tableChecks : List ℕ → List ℕ → List (Check Reply)
 tableChecks chambers store = check1 chambers store ∷ check2 chambers ∷ check3 chambers store ∷ []
-
--- no count is above 128
-pub record Counted (chambers : List ℕ) : Type 0 where
-  pub counts : (i : ℕ) → i < chamberCount chambers → chamberAt chambers i .count ≤ 128
-
--- what the code leans on once checks 1 and 2 have passed
-pub record Shaped (chambers store : List ℕ) : Type 0 where
-  pub few : chamberCount chambers ≤ 16
-  pub whole : length chambers ≡ chamberCount chambers * 5
-  pub long : length store ≡ chamberCount chambers * 768
-  pub counted : Counted chambers

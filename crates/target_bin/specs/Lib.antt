@@ -1,7 +1,7 @@
 pub mod Chambers
 pub mod Store
-pub mod Lending
 pub mod Checks
 pub mod Outcome
 pub mod Fresh
 pub mod Return
+pub mod Leaning

@@ -7,7 +7,7 @@ use lib.Dec.{eqb}
 use Rattle.lists.specs.Lowest.{anyBelow}
 use Rattle.lists.specs.Tab.{put}
 use Rattle.bin_section.specs.declared.section.BinSection.{BinSection}
-use Rattle.bin_section.specs.Section.{wordsOf}
+use Rattle.bin_section.specs.Section.{sectionWords}
 use Rattle.replies.specs.declared.reply.Reply.{Reply}
 use Rattle.replies.specs.Replies.{Check, reply, once, each, inOrder}
 use Rattle.sections.specs.Inside.{insideOf, sharesAt}
@@ -31,7 +31,7 @@ returnChecks chambers store id box =
 -- "An accepted return writes one count and the six words after the last section, nothing else", at chamber k of count n
 abbrev pub stored : List ℕ → List ℕ → ℕ → ℕ → BinSection → Outcome
 stored chambers store k n box =
-    outcome (reply 0 n) (set chambers (k * 5 + 4) (n + 1)) (put store (k * 768 + n * 6) (wordsOf box))
+    outcome (reply 0 n) (set chambers (k * 5 + 4) (n + 1)) (put store (k * 768 + n * 6) (sectionWords box))
 
 unfoldable pub returned : List ℕ → List ℕ → ℕ → BinSection → Outcome
 returned chambers store id box =

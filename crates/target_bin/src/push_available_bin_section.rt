@@ -3,7 +3,7 @@ ghost use mathlib.Core.Path.{_≡_};
 ghost use Prim.Native.Nat.{_+_, _*_, _≤_};
 ghost use lib.ListN.{length};
 ghost use Rattle.lists.specs.Tab.{put};
-ghost use Rattle.bin_section.specs.Section.{wordsOf};
+ghost use Rattle.bin_section.specs.Section.{sectionWords};
 ghost use Rattle.replies.specs.Replies.{reply, inOrder};
 ghost use Rattle.target_bin.specs.Return.{pushChecks};
 use crate::chamber::TargetBin;
@@ -17,7 +17,7 @@ use sections::first_sharing;
 pub fn push_available_bin_section(part: &mut [u32], bin: TargetBin, section: BinSection) -> Reply
     requires { ⌜ (length (now part) ≡ 768) × (bin .count ≤ 128) ⌝ }
     ensures { λ r. ⌜ r ≡ inOrder (pushChecks bin (now (part .entry)) section) (λ a. a) (reply 0 (bin .count)) ⌝ }
-    ensures { λ _. ⌜ now (part .exit) ≡ inOrder (pushChecks bin (now (part .entry)) section) (λ _. now (part .entry)) (put (now (part .entry)) (bin .count * 6) (wordsOf section)) ⌝ }
+    ensures { λ _. ⌜ now (part .exit) ≡ inOrder (pushChecks bin (now (part .entry)) section) (λ _. now (part .entry)) (put (now (part .entry)) (bin .count * 6) (sectionWords section)) ⌝ }
 {
     if !inside(section, bin.whd) {
         return Reply::new(Reply::NOT_CONTAINED, 0);

@@ -1,7 +1,7 @@
 // The return of a section.
 ghost use mathlib.Core.Path.{_≡_};
 ghost use Rattle.replies.specs.Replies.{inOrder};
-ghost use Rattle.target_bin.specs.Checks.{Shaped};
+ghost use Rattle.target_bin.specs.Leaning.{Shaped};
 ghost use Rattle.target_bin.specs.Outcome.{outcome, refused};
 ghost use Rattle.target_bin.specs.Return.{returnChecks, returned, returnOf};
 use crate::chamber::TargetBin;

@@ -13,9 +13,10 @@ use Rattle.bin_section.specs.Sides.{Small}
 use Rattle.try_place.specs.declared.packed_location.PackedLocation.{PackedLocation}
 use Rattle.try_place.specs.declared.TryAnswer.the-variants.{Placed}
 use Rattle.try_place.specs.declared.Tried.{Tried}
-use Rattle.try_place.specs.Splits.{Fitting, sixSplits}
-use Rattle.try_place.specs.Choice.{SmallBoxes, chosen}
-use Rattle.try_place.specs.Try.{Reachable, placedOf, fitChecks, fitOf}
+use Rattle.try_place.specs.Splits.{sixSplits}
+use Rattle.try_place.specs.Leaning.{Fitting, SmallBoxes, Reachable}
+use Rattle.try_place.specs.Choice.{chosen}
+use Rattle.try_place.specs.Try.{placedOf, fitChecks, fitOf}
 use Rattle.try_place.proofs.Choosing.{chosen-below}
 use Rattle.try_place.proofs.Refusing.{fit-passes, fit-placed}
 

@@ -11,9 +11,9 @@ use Rattle.replies.specs.Replies.{inOrder}
 use Rattle.bin_section.specs.declared.rect_to_insert.RectToInsert.{RectToInsert}
 use Rattle.bin_section.specs.declared.section.BinSection.{BinSection}
 use Rattle.try_place.specs.declared.packed_location.PackedLocation.{PackedLocation}
-use Rattle.try_place.specs.Splits.{Fitting, sixSplits}
-use Rattle.try_place.specs.Choice.{SmallSplits}
-use Rattle.try_place.specs.Try.{spanOk, sectionOk, Reachable, placedOf, fitChecks, fitOf, Fits, onPlaced}
+use Rattle.try_place.specs.Splits.{sixSplits}
+use Rattle.try_place.specs.Leaning.{Fitting, SmallSplits, Reachable}
+use Rattle.try_place.specs.Try.{spanOk, sectionOk, placedOf, fitChecks, fitOf, Fits, onPlaced}
 use Rattle.try_place.proofs.Refusing.{fit-placed}
 
 pub small-splits : (s : BinSection) (r : RectToInsert) → Fitting s r → SmallSplits (sixSplits s r)

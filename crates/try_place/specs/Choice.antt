@@ -8,7 +8,7 @@ use lib.Dec.{ltb, eqb}
 use lib.ListN.{getD}
 use Rattle.bin_section.specs.declared.section.BinSection.{BinSection}
 use Rattle.try_place.specs.declared.choice.Ranked.{Ranked}
-use Rattle.bin_section.specs.Sides.{volumeOf, Small}
+use Rattle.bin_section.specs.Sides.{volumeOf}
 use Rattle.bin_section.specs.Section.{zeroSection}
 
 -- the smallest of three volumes, the second smallest, and the place among the six. "Zero volumes take part."
@@ -63,18 +63,3 @@ pub record IsChoice (xs : List Ranked) (n p : ℕ) : Type 0 where
   pub within : p < n
   pub least : (i : ℕ) → i < n → NotOver (getD xs p zeroRanked) (getD xs i zeroRanked)
   pub last : (i : ℕ) → p < i → i < n → Under (getD xs p zeroRanked) (getD xs i zeroRanked)
-
--- ---- What the code may lean on: no side of the boxes is above 65,535.
-
-pub record SmallBoxes (t : List BinSection) : Type 0 where
-  pub first : Small (getD t 0 zeroSection .whd)
-  pub second : Small (getD t 1 zeroSection .whd)
-  pub third : Small (getD t 2 zeroSection .whd)
-
-pub record SmallSplits (t : List (List BinSection)) : Type 0 where
-  pub at0 : SmallBoxes (getD t 0 [])
-  pub at1 : SmallBoxes (getD t 1 [])
-  pub at2 : SmallBoxes (getD t 2 [])
-  pub at3 : SmallBoxes (getD t 3 [])
-  pub at4 : SmallBoxes (getD t 4 [])
-  pub at5 : SmallBoxes (getD t 5 [])

@@ -1,3 +1,4 @@
 pub mod Splits
 pub mod Choice
 pub mod Try
+pub mod Leaning

@@ -1,20 +1,11 @@
 -- "The six splits"
-use Prim.Native.Nat.{_+_, _-_, _≤_}
+use Prim.Native.Nat.{_+_, _-_}
 use mathlib.Core.List.{List, [], _∷_}
 use Rattle.bin_section.specs.declared.width_height_depth.WidthHeightDepth.{WidthHeightDepth}
 use Rattle.bin_section.specs.declared.rect_to_insert.RectToInsert.{RectToInsert}
 use Rattle.bin_section.specs.declared.section.BinSection.{BinSection}
 use Rattle.bin_section.specs.Sides.{sides}
 use Rattle.bin_section.specs.Section.{section}
-
--- the rectangle is no wider, taller or deeper than the section, which ends at 65,535 at most
-pub record Fitting (s : BinSection) (r : RectToInsert) : Type 0 where
-  pub x-end : s .x + s .whd .width ≤ 65535
-  pub y-end : s .y + s .whd .height ≤ 65535
-  pub z-end : s .z + s .whd .depth ≤ 65535
-  pub width-fits : r .whd .width ≤ s .whd .width
-  pub height-fits : r .whd .height ≤ s .whd .height
-  pub depth-fits : r .whd .depth ≤ s .whd .depth
 
 -- "Right boxes start at x+w, above boxes at y+h, behind boxes at z+d, other coordinates unchanged."
 abbrev pub splitOf : BinSection → RectToInsert → WidthHeightDepth → WidthHeightDepth → WidthHeightDepth → List BinSection

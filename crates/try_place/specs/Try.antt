@@ -9,14 +9,7 @@ use Rattle.bin_section.specs.declared.rect_to_insert.RectToInsert.{RectToInsert
 use Rattle.bin_section.specs.declared.section.BinSection.{BinSection}
 use Rattle.try_place.specs.declared.Tried.{Tried}
 use Rattle.try_place.specs.declared.TryAnswer.{TryAnswer}
-use Rattle.try_place.specs.declared.TryAnswer.the-variants.{
-  Placed,
-  BadSection,
-  BadRectangle,
-  PlacementWiderThanBinSection,
-  PlacementTallerThanBinSection,
-  PlacementDeeperThanBinSection,
-}
+use Rattle.try_place.specs.declared.TryAnswer.the-variants.{Placed, BadSection, BadRectangle, PlacementWiderThanBinSection, PlacementTallerThanBinSection, PlacementDeeperThanBinSection}
 use Rattle.replies.specs.Replies.{Check, once, inOrder}
 use Rattle.bin_section.specs.Sides.{sides, sideOk, sidesOk}
 use Rattle.bin_section.specs.Section.{zeroSection}
@@ -96,9 +89,3 @@ onPlaced BadRectangle then′ else′ = else′
 onPlaced PlacementWiderThanBinSection then′ else′ = else′
 onPlaced PlacementTallerThanBinSection then′ else′ = else′
 onPlaced PlacementDeeperThanBinSection then′ else′ = else′
-
--- what the code may lean on: the section ends at 65,535 at most
-pub record Reachable (s : BinSection) : Type 0 where
-  pub x-end : s .x + s .whd .width ≤ 65535
-  pub y-end : s .y + s .whd .height ≤ 65535
-  pub z-end : s .z + s .whd .depth ≤ 65535

@@ -1,7 +1,7 @@
 // Try one placement: a rectangle in the corner of a section, and what remains.
 ghost use mathlib.Core.Path.{_≡_};
-ghost use Rattle.try_place.specs.Splits.{Fitting};
-ghost use Rattle.try_place.specs.Try.{spanOk, sectionOk, Reachable, refusedOf, placedOf, fitOf, tryOf, numberOf, locationOf};
+ghost use Rattle.try_place.specs.Leaning.{Fitting, Reachable};
+ghost use Rattle.try_place.specs.Try.{spanOk, sectionOk, refusedOf, placedOf, fitOf, tryOf, numberOf, locationOf};
 ghost use Rattle.replies.specs.Replies.{reply};
 
 mod choice;

@@ -1,7 +1,8 @@
 // The six ways to divide what remains of a section beside a rectangle in its corner.
 ghost use mathlib.Core.Path.{_≡_};
 ghost use Rattle.bin_section.specs.Sides.{sidesIn};
-ghost use Rattle.try_place.specs.Splits.{Fitting, splitOf, sixSplits};
+ghost use Rattle.try_place.specs.Splits.{splitOf, sixSplits};
+ghost use Rattle.try_place.specs.Leaning.{Fitting};
 use bin_section::BinSection;
 use bin_section::RectToInsert;
 use bin_section::WidthHeightDepth;

@@ -2,14 +2,14 @@ use Rattle.lists.proofs.Kit.{ℕ, _+_, _/_, _≤_, _≡_, sym, ap, _∙_, true,
 use Rattle.bin_section.specs.Sides.{sidesOk}
 use Rattle.replies.specs.Replies.{reply}
 use Rattle.lists.proofs.Lowests.{none-of-lowest}
-use Rattle.audit.specs.Audit.{lengthsOk, auditBoxes}
+use Rattle.audit.specs.Audit.{boxListsOk, auditBoxes}
 use Rattle.audit.proofs.TwoLists.{boxes-length}
 use Rattle.audit.proofs.Tests.{chamber-small, none-inside}
 use Rattle.audit.proofs.Replying.{lengths, firstOutside, firstShared, reply-length, reply-chamber, reply-outside, reply-shared, reply-gap, reply-whole}
 use Rattle.audit.proofs.audit_reply as it
 
 -- what is known past the checks 1 and 2
-ok1 : (c : it.Tie.Else1) → let a = c .before .before .before .before .args in lengthsOk (length (now (a .placed))) (length (now (a .free))) ≡ true
+ok1 : (c : it.Tie.Else1) → let a = c .before .before .before .before .args in boxListsOk (length (now (a .placed))) (length (now (a .free))) ≡ true
 ok1 c = sym (c .before .lengths-ok .ensures) ∙ not-false _ (c .if1 .left)
 
 ok2 : (c : it.Tie.Else2) → sidesOk (c .before .before .before .before .before .before .args .whd) ≡ true

@@ -4,7 +4,7 @@ use Rattle.bin_section.specs.declared.section.BinSection.{BinSection}
 use Rattle.try_place.specs.declared.Tried.{Tried}
 use Rattle.try_place.specs.declared.packed_location.PackedLocation.{PackedLocation}
 use Rattle.try_place.specs.declared.TryAnswer.the-variants.{Placed}
-use Rattle.try_place.specs.Splits.{Fitting}
+use Rattle.try_place.specs.Leaning.{Fitting}
 use Rattle.try_place.specs.Try.{tryChecks, tryOf}
 use Rattle.try_place.proofs.Trying.{reachable}
 use Rattle.try_place.proofs.Remaining.{fitting}

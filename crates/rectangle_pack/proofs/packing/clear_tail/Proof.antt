@@ -1,6 +1,6 @@
 use Rattle.lists.proofs.Kit.{sym, ap, needs}
 use Rattle.target_bin.proofs.Parts.{lend}
-use Rattle.sections.specs.Changes.{Cleared}
+use Rattle.sections.specs.Leaning.{Cleared}
 use Rattle.rectangle_pack.proofs.Tidying.{tail-room}
 use Rattle.target_bin.specs.declared.chamber.TargetBin.{TargetBin}
 use Rattle.rectangle_pack.proofs.packing.clear_tail as it

@@ -2,7 +2,7 @@ use Rattle.lists.proofs.Kit.{arith, refl, ℕ, _+_, _*_, _≤_, _<_, _≡_, ap,
 use Rattle.target_bin.proofs.Checking.{outcome-is}
 use Rattle.target_bin.specs.declared.chamber.TargetBin.{TargetBin}
 use Rattle.target_bin.specs.Chambers.{chamberAt, chamberCount}
-use Rattle.target_bin.specs.Checks.{Shaped}
+use Rattle.target_bin.specs.Leaning.{Shaped}
 use Rattle.target_bin.proofs.Parts.{lent-part, length-partAt}
 use Rattle.target_bin.proofs.Returning.{return-unknown, return-refused, return-accepted, return-room}
 use Rattle.target_bin.proofs.returns.return_to as it

@@ -1,11 +1,11 @@
--- What a removal, an append and a clearing leave of a list of words of which the first count sections are in use.
+-- What the private functions lean on and leave. A reader of the rules needs none of it.
 use Prim.Native.Nat.{ℕ, _+_, _*_, _-_, _≤_, _<_}
 use mathlib.Core.Path.{_≡_}
 use mathlib.Core.List.{List, [], _∷_, _++_}
 use lib.ListN.{length, replicate}
 use Rattle.lists.specs.Tab.{removeAt, put}
 use Rattle.bin_section.specs.declared.section.BinSection.{BinSection}
-use Rattle.bin_section.specs.Section.{sectionAt, wordsOf, zeroSection}
+use Rattle.bin_section.specs.Section.{sectionAt, sectionWords, zeroSection}
 use Rattle.sections.specs.Sections.{sections, allWords}
 
 -- "is removed, later ones move down one": the freed last one is six zeros, and what stands past the count is as it was
@@ -17,7 +17,7 @@ pub record Removed (count i : ℕ) (w w′ : List ℕ) : Type 0 where
 -- "appended": the section stands after the first count, and no other word changes
 pub record Appended (count : ℕ) (s : BinSection) (w w′ : List ℕ) : Type 0 where
   pub free : sections w′ (count + 1) ≡ sections w count ++ (s ∷ [])
-  pub words : w′ ≡ put w (count * 6) (wordsOf s)
+  pub words : w′ ≡ put w (count * 6) (sectionWords s)
   pub past : (k : ℕ) → count < k → sectionAt w′ k ≡ sectionAt w k
 
 -- "words past each count are 0"
