@@ -128,8 +128,3 @@ module _ (whd : WidthHeightDepth) (placed free : List ℕ) (r : Reply) (e : r �
   pub audit-silent : namesBox r ≡ false → audited r [] ≡ auditOf whd placed free
   unfolding auditOf shownOf
   audit-silent h = rw (← e, h)
-
--- the reply of an audit, without the words that it shows
-pub answer-of : (whd : WidthHeightDepth) (placed free shown : List ℕ) (r : Reply) → audited r shown ≡ auditOf whd placed free → r ≡ auditReply whd placed free
-unfolding auditOf
-answer-of whd placed free shown r e = ap (λ (a : Audited). a .reply) e

@@ -85,10 +85,6 @@ module _ (c st rects p : List ℕ) (all : AllPass (packChecks c st rects p)) whe
   unfolding packChecks rectChecks
   no-bad = no-fault _ _ (all .1 .1 .1 .1 .0)
 
-  pub no-repeated : None (rectCount rects) (repeatedId (rectAt rects))
-  unfolding packChecks rectChecks
-  no-repeated = no-fault _ _ (all .1 .1 .1 .1 .1 .0)
-
   room-at : (k : ℕ) → k < chamberCount c → chamberAt c k .count + 2 * rectCount rects ≤ 128
   unfolding packChecks rectChecks noRoom
   room-at k h = ltb-false _ _ (no-fault _ _ (all .1 .1 .1 .1 .1 .1 .0) .at k h)

@@ -86,10 +86,6 @@ part-room w c n h room = rw (lent-part w c) (omega (arith, length-partAt w c roo
 pub came-back : (w ys : List ℕ) (c : ℕ) → length ys ≡ 768 → putMid (c * 768) (c * 768 + 768 - c * 768) w ys ≡ put w (c * 768) ys
 came-back w ys c long = lent w ys (c * 768) (c * 768 + 768 - c * 768) (omega arith)
 
--- two changes of one chamber are one
-pub only-trans : {c : ℕ} {w v u : List ℕ} → OnlyIn c w v → OnlyIn c v u → OnlyIn c w u
-only-trans p q = record { before = q .before ∙ p .before; after = q .after ∙ p .after; others = λ k ne. q .others k ne ∙ p .others k ne }
-
 -- ---- the store read and written
 
 pub length-partOf : (free : List BinSection) → length free ≤ 128 → length (partOf free) ≡ 768
