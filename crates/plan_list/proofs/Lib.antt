@@ -1,8 +1,9 @@
+pub mod Choices
 pub mod Pieces
 pub mod Reaching
 pub mod Saying
 pub mod Comparing
-pub mod Records
+pub mod Entries
 pub mod Adding
 pub mod Lines
 pub mod Examples

@@ -1,7 +1,7 @@
 -- Laws of a text read line after line.
-use Prim.Native.Nat.{ℕ, suc, _+_, _*_, _-_, _≤_, _<_}
+use Prim.Native.Nat.{ℕ, suc, _+_, _-_, _≤_, _<_}
 use mathlib.Core.Path.{_≡_, refl, sym, ap, ap₂, _∙_, subst}
-use mathlib.Core.List.{List, [], _∷_}
+use mathlib.Core.List.{List, [], _∷_, _++_}
 use mathlib.Core.Logic.{_⊎_, inl, inr}
 use mathlib.Core.Bool.{Bool, true, false, cond}
 use native.Mathlib.Nat.{eq-or-lt-of-le}
@@ -12,31 +12,43 @@ use lib.ListN.{length, getD, take, drop, length-drop, length-append}
 use lib.Seq.{take-all, drop-drop}
 use Rattle.lists.specs.Pick.{picked}
 use Rattle.lists.proofs.Lowests.{None}
-use Rattle.lists.proofs.Picks.{pick-yes, pick-no}
+use Rattle.lists.proofs.Picks.{pick-more}
 use Rattle.lists.proofs.Flags.{cond-yes, cond-no}
+use Rattle.grouped_rects_to_place.specs.Rect.{rectWidth}
+use Rattle.plan_list.specs.declared.line_said.LineSaid.{LineSaid}
+use Rattle.plan_list.specs.declared.line_said.LineSaid.the-variants.{Nothing, Chamber, Coil, Slipped}
 use Rattle.plan_list.specs.declared.list.ListRead.{ListRead}
 use Rattle.plan_list.specs.Words.{isOf, firstOf, split, linesOf, uncommented, wordsOf}
-use Rattle.plan_list.specs.List.{Reading, atLine, slipped, addWords, addLine, addLines, lineAt, readOf}
-use Rattle.plan_list.specs.Table.{readingOf, startAt, nextRead, slippedRead, Few, Sized, Past, Step}
-use Rattle.plan_list.proofs.Records.{past-same}
+use Rattle.plan_list.specs.Said.{lineSaid}
+use Rattle.plan_list.specs.List.{Reading, atLine, nextLine, slipped, added, addWords, addLine, addLines, lineAt, readOf}
+use Rattle.plan_list.specs.Table.{front, Tables, readingOf, Past, Few, Sized}
+use Rattle.plan_list.specs.Leaning.{startAt, nextRead, slippedRead, HasRoom, Step}
 use Rattle.plan_list.proofs.Pieces.{kinds, first-most, first-none, first-fires, split-none, split-more}
+use Rattle.plan_list.proofs.Entries.{past-same, past-then, front-lines}
+use Rattle.plan_list.proofs.Adding.{said-room}
 
 -- ---- one line
 
 pub few-next : (l n : ListRead) → n ≡ nextRead l → Few l → Few n
 few-next l n e f = subst (λ (x : ListRead). Few x) (sym e) (record { chambers = f .chambers; coils = f .coils })
 
-pub line-step :
-    (line : List ℕ) (e : ℕ) (l n r : ListRead) (a b c d a′ b′ c′ d′ : List ℕ)
-    → e ≡ firstOf 35 line
-    → n ≡ nextRead l
-    → Step (addWords (wordsOf (take (e - 0) line))) n r a b c d a′ b′ c′ d′
-    → Step (addWords (wordsOf (uncommented line))) (nextRead l) r a b c d a′ b′ c′ d′
-unfolding uncommented
-line-step line e l n r a b c d a′ b′ c′ d′ q p s =
-    let z : e - 0 ≡ firstOf 35 line = omega (arith, q) in
-    subst (λ (x : ListRead). Step (addWords (wordsOf (uncommented line))) x r a b c d a′ b′ c′ d′) p
-    (subst (λ (k : ℕ). Step (addWords (wordsOf (take k line))) n r a b c d a′ b′ c′ d′) z s)
+module _ (line : List ℕ) (e : ℕ) (l n : ListRead) (s : LineSaid) (q : e ≡ firstOf 35 line) (p : n ≡ nextRead l) (few : Few l) (says : s ≡ lineSaid (wordsOf (take (e - 0) line)) (l .chambers) (l .coils)) where
+  pub line-room : HasRoom s (n .chambers) (n .coils)
+  line-room = rw (p, says) (said-room (l .chambers) (l .coils) (wordsOf (take (e - 0) line)) (few .chambers) (few .coils))
+
+  pub line-step : (r : ListRead) (t t′ : Tables) → Sized t → Step (added s) n r t t′ → Step (addLine line) l r t t′
+  unfolding addLine addWords uncommented readingOf
+  line-step r t t′ sized step =
+      let z : e - 0 ≡ firstOf 35 line = omega (arith, q) in
+      let chambers : length (readingOf l t .chambers .lines) ≡ l .chambers = front-lines 5 (l .chambers) (t .chambers) (omega (arith, few .chambers, sized .chamberLines)) in
+      let coils : length (readingOf l t .coils .lines) ≡ l .coils = front-lines rectWidth (l .coils) (t .coils) (omega (arith, few .coils, sized .coilLines)) in
+      let same : readingOf r t′ ≡ added s (nextLine (readingOf l t)) = step .same ∙ ap (λ (x : ListRead). added s (readingOf x t)) p in
+      record {
+        same = same ∙ ap (λ (x : LineSaid). added x (nextLine (readingOf l t))) (says ∙ rw (z, chambers, coils));
+        few = step .few;
+        more = rw p at (step .more);
+        past = step .past;
+      }
 
 -- ---- the lines from an index on; past the end there are none
 
@@ -73,141 +85,106 @@ line-first text at e h q = lines-in text at h ∙ go (eq-or-lt-of-le (first-most
 
 -- ---- line after line
 
-drop-more : (k m : ℕ) (x y : List ℕ) → k ≤ m → drop k x ≡ drop k y → drop m x ≡ drop m y
-drop-more k m x y h e =
-    ap (λ (n : ℕ). drop n x) (sym whole) ∙ sym (drop-drop (m - k) k x) ∙ ap (drop (m - k)) e ∙ drop-drop (m - k) k y ∙ ap (λ (n : ℕ). drop n y) whole
-  where
-    whole : k + (m - k) ≡ m
-    whole = omega arith
+-- a line's number is one more, whatever it says
+line-added : (s : LineSaid) (r : Reading) → added s r .line ≡ r .line
+unfolding added
+line-added Nothing r = refl
+line-added (Chamber b) r = refl
+line-added (Coil c) r = refl
+line-added (Slipped slip word) r = refl
 
--- two readings, the later one with no fewer chambers and coils
-past-then :
-    (l r : ListRead) (a b c d a′ b′ c′ d′ a″ b″ c″ d″ : List ℕ)
-    → (l .chambers ≤ r .chambers) × (l .coils ≤ r .coils)
-    → Past l a b c d a′ b′ c′ d′
-    → Past r a′ b′ c′ d′ a″ b″ c″ d″
-    → Past r a b c d a″ b″ c″ d″
-past-then l r a b c d a′ b′ c′ d′ a″ b″ c″ d″ m p q =
-    record {
-      chambers = q .chambers ∙ drop-more (l .chambers * 5) (r .chambers * 5) a′ a (omega (arith, m .0)) (p .chambers);
-      chamberLines = q .chamberLines ∙ drop-more (l .chambers) (r .chambers) b′ b (m .0) (p .chamberLines);
-      coils = q .coils ∙ drop-more (l .coils * 5) (r .coils * 5) c′ c (omega (arith, m .1)) (p .coils);
-      coilLines = q .coilLines ∙ drop-more (l .coils) (r .coils) d′ d (m .1) (p .coilLines);
-    }
-
-pub record Going (text : List ℕ) (a₀ b₀ c₀ d₀ : List ℕ) (at : ℕ) (l : ListRead) (a b c d : List ℕ) : Type 0 where
-  pub rest : addLines (linesOf text) (atLine 0) ≡ addLines (linesFrom text at) (readingOf l a b c d)
+pub record Going (text : List ℕ) (t₀ : Tables) (at : ℕ) (l : ListRead) (t : Tables) : Type 0 where
+  pub rest : addLines (linesOf text) (atLine 0) ≡ addLines (linesFrom text at) (readingOf l t)
   pub few : Few l
-  pub sized : Sized a b c d
+  pub sized : Sized t
   pub line : l .line ≤ at
   pub short : length text ≤ 65536
-  pub past : Past l a₀ b₀ c₀ d₀ a b c d
+  pub past : Past l t₀ t
 
-pub going-start : (text : List ℕ) (l : ListRead) (a b c d : List ℕ) → l ≡ startAt 0 → Sized a b c d → length text ≤ 65536 → Going text a b c d 0 l a b c d
-unfolding readingOf
-going-start text l a b c d e s h =
-    record {
-      rest =
-          ap (λ (x : List (List ℕ)). addLines x (atLine 0)) (sym (lines-in text 0 (omega arith)))
-          ∙ ap (λ (x : ListRead). addLines (linesFrom text 0) (readingOf x a b c d)) (sym e);
-      few = subst (λ (x : ListRead). Few x) (sym e) (record { chambers = omega arith; coils = omega arith });
+pub going-start : (text : List ℕ) (l : ListRead) (t : Tables) → l ≡ startAt 0 → Sized t → length text ≤ 65536 → Going text t 0 l t
+unfolding readingOf front
+going-start text l t e s h =
+    rw e
+    (record {
+      rest = ap (λ (x : List (List ℕ)). addLines x (atLine 0)) (sym (lines-in text 0 (omega arith)));
+      few = record { chambers = omega arith; coils = omega arith };
       sized = s;
-      line = subst (λ (x : ListRead). x .line ≤ 0) (sym e) (omega arith);
+      line = omega arith;
       short = h;
-      past = past-same l a b c d;
-    }
+      past = past-same (startAt 0) t;
+    })
 
-module _ (text a₀ b₀ c₀ d₀ : List ℕ) (at : ℕ) (l r : ListRead) (a b c d a′ b′ c′ d′ : List ℕ) (g : Going text a₀ b₀ c₀ d₀ at l a b c d) (in-text : at ≤ length text) (end : ℕ) (q : end ≡ at + firstOf 10 (drop at text)) (s : Step (addWords (wordsOf (uncommented (take (end - at) (drop at text))))) (nextRead l) r a b c d a′ b′ c′ d′) where
-  added : readingOf r a′ b′ c′ d′ ≡ addLine (take (end - at) (drop at text)) (readingOf l a b c d)
-  unfolding addLine readingOf
-  added = s .same
-
-  opened : addLines (linesOf text) (atLine 0) ≡ cond (eqb (r .slip) 0) (addLines (linesFrom text (end + 1)) (readingOf r a′ b′ c′ d′)) (readingOf r a′ b′ c′ d′)
+module _ (text : List ℕ) (t₀ : Tables) (at : ℕ) (l r : ListRead) (t t′ : Tables) (g : Going text t₀ at l t) (in-text : at ≤ length text) (end : ℕ) (q : end ≡ at + firstOf 10 (drop at text)) (s : Step (addLine (take (end - at) (drop at text))) l r t t′) where
+  opened : addLines (linesOf text) (atLine 0) ≡ cond (eqb (r .slip) 0) (addLines (linesFrom text (end + 1)) (readingOf r t′)) (readingOf r t′)
   unfolding addLines readingOf
   opened =
       g .rest
-      ∙ ap (λ (x : List (List ℕ)). addLines x (readingOf l a b c d)) (line-first text at (end - at) in-text (omega (arith, q)) ∙ ap (λ (k : ℕ). take (end - at) (drop at text) ∷ linesFrom text k) past)
-      ∙ ap (λ (x : Reading). cond (eqb (x .slip) 0) (addLines (linesFrom text (end + 1)) x) x) (sym added)
+      ∙ ap (λ (x : List (List ℕ)). addLines x (readingOf l t)) (line-first text at (end - at) in-text (omega (arith, q)) ∙ ap (λ (k : ℕ). take (end - at) (drop at text) ∷ linesFrom text k) past)
+      ∙ ap (λ (x : Reading). cond (eqb (x .slip) 0) (addLines (linesFrom text (end + 1)) x) x) (sym (s .same))
     where
       past : at + (end - at) + 1 ≡ end + 1
       past = omega (arith, q)
 
-  pub going-slip : ¬ (r .slip ≡ 0) → readingOf r a′ b′ c′ d′ ≡ addLines (linesOf text) (atLine 0)
-  going-slip n = sym (opened ∙ cond-no (addLines (linesFrom text (end + 1)) (readingOf r a′ b′ c′ d′)) (readingOf r a′ b′ c′ d′) (eqb (r .slip) 0) (ne-eqb (r .slip) 0 n))
+  next-line : r .line ≡ l .line + 1
+  unfolding addLine addWords readingOf
+  next-line = ap (λ (x : Reading). x .line) (s .same) ∙ line-added (lineSaid _ _ _) (nextLine (readingOf l t))
 
-  pub going-past : Past r a₀ b₀ c₀ d₀ a′ b′ c′ d′
-  going-past = past-then l r a₀ b₀ c₀ d₀ a b c d a′ b′ c′ d′ (s .more) (g .past) (s .past)
+  pub going-past : Past r t₀ t′
+  going-past = past-then l r t₀ t t′ (s .more) (g .past) (s .past)
 
-  pub going-on : r .slip ≡ 0 → Sized a′ b′ c′ d′ → Going text a₀ b₀ c₀ d₀ (end + 1) r a′ b′ c′ d′
+  pub going-slip : ¬ (r .slip ≡ 0) → (readingOf r t′ ≡ addLines (linesOf text) (atLine 0)) × Few r × Past r t₀ t′
+  going-slip n = (
+    sym (opened ∙ cond-no (addLines (linesFrom text (end + 1)) (readingOf r t′)) (readingOf r t′) (eqb (r .slip) 0) (ne-eqb (r .slip) 0 n)),
+    s .few,
+    going-past,
+  )
+
+  pub going-on : r .slip ≡ 0 → Sized t′ → Going text t₀ (end + 1) r t′
   going-on z w =
       record {
-        rest = opened ∙ cond-yes (addLines (linesFrom text (end + 1)) (readingOf r a′ b′ c′ d′)) (readingOf r a′ b′ c′ d′) (eqb (r .slip) 0) (eq-eqb (r .slip) 0 z);
+        rest = opened ∙ cond-yes (addLines (linesFrom text (end + 1)) (readingOf r t′)) (readingOf r t′) (eqb (r .slip) 0) (eq-eqb (r .slip) 0 z);
         few = s .few;
         sized = w;
-        line = omega (arith, s .line, g .line, q);
+        line = omega (arith, next-line, g .line, q);
         short = g .short;
         past = going-past;
       }
 
-pub going-end : (text a₀ b₀ c₀ d₀ : List ℕ) (at : ℕ) (l : ListRead) (a b c d : List ℕ) → Going text a₀ b₀ c₀ d₀ at l a b c d → length text < at → readingOf l a b c d ≡ addLines (linesOf text) (atLine 0)
+pub going-end : (text : List ℕ) (t₀ : Tables) (at : ℕ) (l : ListRead) (t : Tables) → Going text t₀ at l t → length text < at → (readingOf l t ≡ addLines (linesOf text) (atLine 0)) × Few l × Past l t₀ t
 unfolding addLines
-going-end text a₀ b₀ c₀ d₀ at l a b c d g h =
-    sym (g .rest ∙ ap (λ (x : List (List ℕ)). addLines x (readingOf l a b c d)) (lines-past text at h))
+going-end text t₀ at l t g h =
+    (sym (g .rest ∙ ap (λ (x : List (List ℕ)). addLines x (readingOf l t)) (lines-past text at h)), g .few, g .past)
 
 -- ---- the number of a line
 
-abbrev newline : List ℕ → ℕ → Bool
-newline text i = isOf 10 (getD text i 0)
-
-pub record LinesTo (text : List ℕ) (line i : ℕ) : Type 0 where
-  pub same : line ≡ lineAt text i
-  pub most : line ≤ i + 1
-
-pub lines-none : (text : List ℕ) → LinesTo text 1 0
+pub line-one : (text : List ℕ) → 1 ≡ lineAt text 0
 unfolding lineAt picked
-lines-none text = record { same = refl; most = omega arith }
+line-one text = refl
 
-pub lines-more : (text : List ℕ) (line i s : ℕ) → LinesTo text line i → (s ≡ cond (isOf 10 (getD text i 0)) 1 0) × (s ≤ 1) → LinesTo text (line + s) (i + 1)
+pub line-more : (text : List ℕ) (line i s : ℕ) → line ≡ lineAt text i → s ≡ cond (isOf 10 (getD text i 0)) 1 0 → line + s ≡ lineAt text (i + 1)
 unfolding lineAt
-lines-more text line i s g q =
-    record { same = go (newline text i) refl; most = omega (arith, g .most, q .1) }
+line-more text line i s e f = rw (pick-more i (λ i. isOf 10 (getD text i 0)), e, f) (go (picked i (λ i. isOf 10 (getD text i 0))) (isOf 10 (getD text i 0)))
   where
-    go : (t : Bool) → newline text i ≡ t → line + s ≡ lineAt text (i + 1)
-    go true e =
-        let z : s ≡ 1 = q .0 ∙ ap (λ (b : Bool). cond b 1 0) e in
-        let p = ap length (pick-yes i (newline text) e) ∙ length-append (picked i (newline text)) (i ∷ []) in
-        omega (arith, g .same, z, p)
-    go false e =
-        let z : s ≡ 0 = q .0 ∙ ap (λ (b : Bool). cond b 1 0) e in
-        let p = ap length (pick-no i (newline text) e) in
-        omega (arith, g .same, z, p)
-
-pub lines-all : (text : List ℕ) (line i n : ℕ) → LinesTo text line i → i ≡ n → (line ≡ lineAt text n) × (line ≤ n + 1)
-lines-all text line i n g e = (g .same ∙ ap (lineAt text) e, omega (arith, g .most))
-
-pub one-newline : (b : ℕ) (t : Bool) → t ≡ isOf 10 b → t ≡ true → _≡_ {A = ℕ} 1 (cond (isOf 10 b) 1 0) × (1 ≤ 1)
-one-newline b t e q = (sym (cond-yes 1 0 (isOf 10 b) (sym e ∙ q)), omega arith)
-
-pub no-newline : (b : ℕ) (t : Bool) → t ≡ isOf 10 b → t ≡ false → _≡_ {A = ℕ} 0 (cond (isOf 10 b) 1 0) × (0 ≤ 1)
-no-newline b t e q = (sym (cond-no 1 0 (isOf 10 b) (sym e ∙ q)), omega arith)
+    go : (l : List ℕ) (b : Bool) → length l + 1 + cond b 1 0 ≡ length (cond b (l ++ (i ∷ [])) l) + 1
+    go l true = omega (arith, length-append l (i ∷ []))
+    go l false = omega arith
 
 -- ---- the whole text
 
 pub read-too-long :
-    (text a b c d : List ℕ) (s r : ListRead) (line : ℕ)
+    (text : List ℕ) (t : Tables) (s r : ListRead) (line : ℕ)
     → 65536 < length text
     → line ≡ lineAt text 65536
     → s ≡ startAt line
     → r ≡ slippedRead 7 0 s
-    → (readingOf r a b c d ≡ readOf text) × Few r × Past r a b c d a b c d
-unfolding readOf readingOf
-read-too-long text a b c d s r line h e p q =
-    let z : r ≡ slippedRead 7 0 (startAt line) = q ∙ ap (slippedRead 7 0) p in (
-      ap (λ (x : ListRead). readingOf x a b c d) z
-          ∙ ap (λ (n : ℕ). slipped 7 0 (atLine n)) e
+    → (readingOf r t ≡ readOf text) × Few r × Past r t t
+unfolding readOf readingOf front
+read-too-long text t s r line h e p q =
+    rw (q, p) (
+      ap (λ (n : ℕ). slipped 7 0 (atLine n)) e
           ∙ sym (cond-yes (slipped 7 0 (atLine (lineAt text 65536))) (addLines (linesOf text) (atLine 0)) (ltb 65536 (length text)) (lt-ltb 65536 (length text) h)),
-      subst (λ (x : ListRead). Few x) (sym z) (record { chambers = omega arith; coils = omega arith }),
-      past-same r a b c d,
+      record { chambers = omega arith; coils = omega arith },
+      past-same (slippedRead 7 0 (startAt line)) t,
     )
 
 pub read-whole : (text : List ℕ) (x : Reading) → length text ≤ 65536 → x ≡ addLines (linesOf text) (atLine 0) → x ≡ readOf text

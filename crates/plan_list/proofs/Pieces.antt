@@ -3,11 +3,10 @@ use Prim.Native.Nat.{ℕ, zero, suc, _≤_, _<_}
 use mathlib.Core.Path.{_≡_, refl, sym, ap, _∙_}
 use mathlib.Core.List.{List, [], _∷_}
 use mathlib.Core.Logic.{_⊎_, inl, inr}
-use mathlib.Core.Bool.{Bool, true, false, not}
+use mathlib.Core.Bool.{Bool, true, false}
 use native.Mathlib.Nat.{not-suc-le-zero, le-of-suc-le-suc, eq-or-lt-of-le}
 use native.Mathlib.Omega.{arith}
-use borrow.Author.Tests.{ne-eqb, not-true, not-false}
-use lib.Dec.{eqb}
+use borrow.Author.Tests.{not-true, not-false}
 use lib.ListN.{length, getD, take, drop, drop-of-length-le}
 use lib.Seq.{take-all, drop-cons, length-take-le}
 use Rattle.lists.proofs.Lowests.{None, lowest-most, lowest-here, lowest-end, none-below-lowest, lowest-fires}
@@ -15,18 +14,6 @@ use Rattle.lists.proofs.Flags.{cond-yes, cond-no}
 use Rattle.plan_list.specs.Words.{isBlank, isOf, firstOf, ontoFirst, split, filled, wordsOf}
 
 -- ---- kinds
-
-pub of-blank : (kind b : ℕ) (r : Bool) → kind ≡ 256 → r ≡ isBlank b → r ≡ isOf kind b
-unfolding isOf
-of-blank kind b r e f = f ∙ sym (ap (λ (k : ℕ). isOf k b) e)
-
-pub of-part : (kind b : ℕ) (r : Bool) → kind ≡ 257 → r ≡ not (isBlank b) → r ≡ isOf kind b
-unfolding isOf
-of-part kind b r e f = f ∙ sym (ap (λ (k : ℕ). isOf k b) e)
-
-pub of-byte : (kind b : ℕ) → ¬ (kind ≡ 256) → ¬ (kind ≡ 257) → eqb b kind ≡ isOf kind b
-unfolding isOf
-of-byte kind b p q = rw (ne-eqb kind 256 p, ne-eqb kind 257 q)
 
 -- a byte is a blank or a part of a word
 pub no-part : (b : ℕ) → isOf 257 b ≡ false → isOf 256 b ≡ true

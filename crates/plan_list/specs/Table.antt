@@ -1,64 +1,43 @@
--- What was read, as the lent tables hold it.
-use Prim.Native.Nat.{ℕ, _+_, _*_, _≤_}
+-- What was read, as the lent tables hold it: entries from the front, and the words past them as they were.
+use Prim.Native.Nat.{ℕ, _*_, _≤_}
 use mathlib.Core.Path.{_≡_}
 use mathlib.Core.List.{List}
 use lib.ListN.{length, take, drop}
+use Rattle.grouped_rects_to_place.specs.Rect.{rectWidth}
 use Rattle.plan_list.specs.declared.list.ListRead.{ListRead}
-use Rattle.plan_list.specs.List.{Reading}
+use Rattle.plan_list.specs.List.{Listed, listed, Reading, reading}
+
+-- the first n entries of a table, of k words each; and what stands past them
+unfoldable pub front : ℕ → ℕ → Listed → Listed
+front k n t = listed (take (n * k) (t .words)) (take n (t .lines))
+
+unfoldable pub rest : ℕ → ℕ → Listed → Listed
+rest k n t = listed (drop (n * k) (t .words)) (drop n (t .lines))
+
+-- the lent tables
+pub record Tables : Type 0 where
+  pub chambers : Listed
+  pub coils : Listed
+
+abbrev pub tables : List ℕ → List ℕ → List ℕ → List ℕ → Tables
+tables chambers chamberLines coils coilLines = record { chambers = listed chambers chamberLines; coils = listed coils coilLines }
 
 -- the tables up to their counts
-unfoldable pub readingOf : ListRead → List ℕ → List ℕ → List ℕ → List ℕ → Reading
-readingOf l chambers chamberLines coils coilLines =
-    record {
-      chambers = take (l .chambers * 5) chambers;
-      chamberLines = take (l .chambers) chamberLines;
-      coils = take (l .coils * 5) coils;
-      coilLines = take (l .coils) coilLines;
-      line = l .line;
-      slip = l .slip;
-      word = l .word;
-    }
+unfoldable pub readingOf : ListRead → Tables → Reading
+readingOf l t = reading (front 5 (l .chambers) (t .chambers)) (front rectWidth (l .coils) (t .coils)) (l .line) (l .slip) (l .word)
 
 -- the words past the counts are as they were
-pub record Past (l : ListRead) (a b c d a′ b′ c′ d′ : List ℕ) : Type 0 where
-  pub chambers : drop (l .chambers * 5) a′ ≡ drop (l .chambers * 5) a
-  pub chamberLines : drop (l .chambers) b′ ≡ drop (l .chambers) b
-  pub coils : drop (l .coils * 5) c′ ≡ drop (l .coils * 5) c
-  pub coilLines : drop (l .coils) d′ ≡ drop (l .coils) d
-
--- ---- What the code leans on.
-
-abbrev pub startAt : ℕ → ListRead
-startAt line = record { chambers = 0; coils = 0; line = line; slip = 0; word = 0 }
-
-abbrev pub nextRead : ListRead → ListRead
-nextRead l = record { chambers = l .chambers; coils = l .coils; line = l .line + 1; slip = l .slip; word = l .word }
-
-abbrev pub slippedRead : ℕ → ℕ → ListRead → ListRead
-slippedRead slip word l = record { chambers = l .chambers; coils = l .coils; line = l .line; slip = slip; word = word }
+pub record Past (l : ListRead) (t t′ : Tables) : Type 0 where
+  pub chambers : rest 5 (l .chambers) (t′ .chambers) ≡ rest 5 (l .chambers) (t .chambers)
+  pub coils : rest rectWidth (l .coils) (t′ .coils) ≡ rest rectWidth (l .coils) (t .coils)
 
 -- the counts are those of tables with room for 16 chambers and 63 coils
 pub record Few (l : ListRead) : Type 0 where
   pub chambers : l .chambers ≤ 16
   pub coils : l .coils ≤ 63
 
-pub record Sized (a b c d : List ℕ) : Type 0 where
-  pub chambers : length a ≡ 80
-  pub chamberLines : length b ≡ 16
-  pub coils : length c ≡ 315
-  pub coilLines : length d ≡ 63
-
--- one step of the reading, on the line that it stands in
-pub record Step (f : Reading → Reading) (l l′ : ListRead) (a b c d a′ b′ c′ d′ : List ℕ) : Type 0 where
-  pub same : readingOf l′ a′ b′ c′ d′ ≡ f (readingOf l a b c d)
-  pub few : Few l′
-  pub line : l′ .line ≡ l .line
-  pub more : (l .chambers ≤ l′ .chambers) × (l .coils ≤ l′ .coils)
-  pub past : Past l′ a b c d a′ b′ c′ d′
-
--- the same where only the chambers' tables, or only the coils', are at hand
-pub record ChamberStep (f : Reading → Reading) (l l′ : ListRead) (a b a′ b′ : List ℕ) : Type 0 where
-  pub step : (c d : List ℕ) → Step f l l′ a b c d a′ b′ c d
-
-pub record CoilStep (f : Reading → Reading) (l l′ : ListRead) (c d c′ d′ : List ℕ) : Type 0 where
-  pub step : (a b : List ℕ) → Step f l l′ a b c d a b c′ d′
+pub record Sized (t : Tables) : Type 0 where
+  pub chambers : length (t .chambers .words) ≡ 16 * 5
+  pub chamberLines : length (t .chambers .lines) ≡ 16
+  pub coils : length (t .coils .words) ≡ 63 * rectWidth
+  pub coilLines : length (t .coils .lines) ≡ 63
