@@ -45,7 +45,8 @@ use Rattle.packing_rules.proofs.Room.{never-overflows}
 use Rattle.custody.specs.Ledger.{newBoxes, places, afterPack}
 use Rattle.custody.specs.Run.{Hall, hallOf, packed, SameChambers, placedAt}
 use Rattle.custody.proofs.Between.{Good, good-ledger, same-chambers, one-index}
-use Rattle.custody.proofs.Groups.{groups-disjoint, groups-distinct, groups-below}
+use Rattle.grouped_rects_to_place.proofs.Sizes.{groups-disjoint}
+use Rattle.custody.proofs.Groups.{groups-distinct, groups-below}
 use Rattle.custody.proofs.Ledgers.{new-total}
 use Rattle.custody.proofs.Packs.{Conserved, Finished, start-conserved, groups-conserved}
 use Rattle.custody.proofs.Placements.{Sided, each-inside, inside-each}
@@ -161,7 +162,7 @@ module _ (f : Hall) (good : Good f) (rects placements : List ℕ) where
     finished =
         groups-conserved m n ids whds r (freeOf c s) (one-index c s (good .sound-tables)) (λ k h. chamber-small (whds k) (good .sound-tables .shapes-ok .sides k h)) (rect-sided r n (no-bad c s rects placements pass))
         (trialOrder c) (groupsOf n r) (state (freeOf c s) (replicate n unplaced)) (order-low c) started
-        (record { waiting = all-waiting n (groups-below r n); distinct = groups-distinct r n; apart = groups-disjoint r n })
+        (record { waiting = all-waiting n (groups-below r n); distinct = groups-distinct r n; apart = groups-disjoint n r })
 
     abbrev e : Ended
     e = packing c s rects
