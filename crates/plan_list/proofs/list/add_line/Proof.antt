@@ -6,9 +6,11 @@ add-said-requires : it.Tie.Need-add-said-requires
 add-said-requires c κs =
     let n = c .before .before .before .before in
     let e = n .before .before .before in
-    let p = e .before .before .before .before .before .before .pre in
-    (few-next _ _ (n .next-line .ensures) (p .0), p .1,
-    line-room _ _ _ _ _ (e .first-of .ensures .0) (n .next-line .ensures) (p .0) (n .before .line-said .ensures))
+    let p = e .before .before .before .before .before .before .pre in (
+      few-next _ _ (n .next-line .ensures) (p .0),
+      p .1,
+      line-room _ _ _ _ _ (e .first-of .ensures .0) (n .next-line .ensures) (p .0) (n .before .line-said .ensures),
+    )
 
 returns : it.Tie.Need-returns
 returns c =
