@@ -161,13 +161,17 @@ pub line-one : (text : List ℕ) → 1 ≡ lineAt text 0
 unfolding lineAt picked
 line-one text = refl
 
+-- one number more that a test may pick
+pub picked-one : (i : ℕ) (f : ℕ → Bool) → length (picked (i + 1) f) ≡ length (picked i f) + cond (f i) 1 0
+picked-one i f = rw (pick-more i f) (go (picked i f) (f i))
+  where
+    go : (l : List ℕ) (b : Bool) → length (cond b (l ++ (i ∷ [])) l) ≡ length l + cond b 1 0
+    go l true = length-append l (i ∷ [])
+    go l false = omega arith
+
 pub line-more : (text : List ℕ) (line i s : ℕ) → line ≡ lineAt text i → s ≡ cond (isOf 10 (getD text i 0)) 1 0 → line + s ≡ lineAt text (i + 1)
 unfolding lineAt
-line-more text line i s e f = rw (pick-more i (λ i. isOf 10 (getD text i 0)), e, f) (go (picked i (λ i. isOf 10 (getD text i 0))) (isOf 10 (getD text i 0)))
-  where
-    go : (l : List ℕ) (b : Bool) → length l + 1 + cond b 1 0 ≡ length (cond b (l ++ (i ∷ [])) l) + 1
-    go l true = omega (arith, length-append l (i ∷ []))
-    go l false = omega arith
+line-more text line i s e f = omega (arith, e, f, picked-one i (λ i. isOf 10 (getD text i 0)))
 
 -- ---- the whole text
 

@@ -1,3 +1,2 @@
-pub mod Choosing
 pub mod Examples
 pub mod Looping

@@ -1,11 +1,14 @@
 -- What the planner's program writes, text by text.
-use Prim.Native.Nat.{ℕ, zero, suc, _+_, _*_, _-_}
+use Prim.Native.Nat.{ℕ, zero, suc, _-_}
 use mathlib.Core.List.{List, [], _++_}
 use mathlib.Core.Bool.{Bool, _||_, cond}
 use lib.Dec.{eqb}
 use lib.ListN.{length, getD}
 use Rattle.lists.specs.Pick.{picked}
 use Rattle.replies.specs.declared.reply.Reply.{Reply}
+use Rattle.placement.specs.declared.Placement.{Placement}
+use Rattle.placement.specs.Placements.{placementAt}
+use Rattle.grouped_rects_to_place.specs.Rect.{rectAt}
 use Rattle.text.specs.Ascii.{ascii}
 use Rattle.text.specs.Decimal.{decimal, item}
 
@@ -49,8 +52,8 @@ abbrev pub namesChamber : ℕ → Bool
 namesChamber number = eqb number 2 || (eqb number 3 || eqb number 6)
 
 -- the line of the list that a refusal points at
-unfoldable pub lineOf : List ℕ → List ℕ → Reply → ℕ
-lineOf chamberLines coilLines r =
+unfoldable pub refusedLine : List ℕ → List ℕ → Reply → ℕ
+refusedLine chamberLines coilLines r =
     cond (namesChamber (r .number)) (getD chamberLines (r .detail) 0) (getD coilLines (r .detail) 0)
 
 -- "the number with what it means in words and the line of the list it points at"
@@ -60,16 +63,14 @@ refusal line number = lineTag line ++ item (ascii "refused with ") number ++ asc
 unfoldable pub placeText : ℕ → ℕ → ℕ → List ℕ
 placeText x y z = item (ascii " at ") x ++ item (ascii " ") y ++ item (ascii " ") z ++ ascii "\n"
 
--- "where each coil goes, which coils wait": of a row of the placements, whose first word is 1 where the coil is placed
-unfoldable pub goesTo : ℕ → ℕ → ℕ → ℕ → ℕ → List ℕ
-goesTo placed chamber x y z = cond (eqb placed 1) (item (ascii " goes to chamber ") chamber ++ placeText x y z) (ascii " waits\n")
+-- "where each coil goes, which coils wait": the first word of a placement is 1 where the coil is placed
+unfoldable pub goesTo : Placement → List ℕ
+goesTo p =
+    cond (eqb (p .placed) 1) (item (ascii " goes to chamber ") (p .chamber) ++ placeText (p .x) (p .y) (p .z)) (ascii " waits\n")
 
 -- of the coil at an index of the tables
 unfoldable pub coilText : List ℕ → List ℕ → ℕ → List ℕ
-coilText coils placements i =
-    item (ascii "coil ") (getD coils (i * 5) 0)
-    ++ goesTo (getD placements (i * 5) 0) (getD placements (i * 5 + 1) 0) (getD placements (i * 5 + 2) 0) (getD placements (i * 5 + 3) 0)
-    (getD placements (i * 5 + 4) 0)
+coilText coils placements i = item (ascii "coil ") (rectAt coils i .id) ++ goesTo (placementAt placements i)
 
 -- of the first n coils, in the order of the list
 unfoldable pub coilTexts : List ℕ → List ℕ → ℕ → List ℕ
@@ -77,17 +78,21 @@ coilTexts coils placements zero = []
 coilTexts coils placements (suc n) = coilTexts coils placements n ++ coilText coils placements n
 
 -- how many of the first n coils are placed
-unfoldable pub placedIn : List ℕ → ℕ → ℕ
-placedIn placements n = length (picked n (λ i. eqb (getD placements (i * 5) 0) 1))
+abbrev pub isPlaced : List ℕ → ℕ → Bool
+isPlaced placements i = eqb (placementAt placements i .placed) 1
+
+unfoldable pub placedCount : List ℕ → ℕ → ℕ
+placedCount placements n = length (picked n (isPlaced placements))
 
 unfoldable pub summary : List ℕ → ℕ → List ℕ
 summary placements n =
-    decimal (placedIn placements n) ++ item (ascii " placed, ") (n - placedIn placements n) ++ ascii " waiting\n"
+    decimal (placedCount placements n) ++ item (ascii " placed, ") (n - placedCount placements n) ++ ascii " waiting\n"
 
--- the whole report of a pack of n coils. Every refusal but 7 places nothing.
-unfoldable pub packReport : List ℕ → List ℕ → List ℕ → List ℕ → ℕ → Reply → List ℕ
-packReport chamberLines coilLines coils placements n r =
+-- the whole report of a pack: each coil has its line. Every refusal but 7 places nothing.
+unfoldable pub packReport : List ℕ → List ℕ → List ℕ → List ℕ → Reply → List ℕ
+packReport chamberLines coilLines coils placements r =
+    let n = length coilLines in
+    let line = refusedLine chamberLines coilLines r in
     cond (eqb (r .number) 0) (coilTexts coils placements n ++ summary placements n)
-    (cond (eqb (r .number) 7)
-    (coilTexts coils placements n ++ refusal (lineOf chamberLines coilLines r) 7 ++ summary placements n)
-    (refusal (lineOf chamberLines coilLines r) (r .number) ++ nothingPlaced))
+    (cond (eqb (r .number) 7) (coilTexts coils placements n ++ refusal line 7 ++ summary placements n)
+    (refusal line (r .number) ++ nothingPlaced))

@@ -2,19 +2,13 @@
 ghost use Prim.Native.Nat.{_+_, _*_, _≤_};
 ghost use lib.ListN.{length};
 ghost use Rattle.text.specs.Written.{Written};
+ghost use Rattle.placement.specs.Placements.{HasPlacement, HasPlacements};
+ghost use Rattle.grouped_rects_to_place.specs.Rect.{HasRect, HasRects};
 ghost use Rattle.plan_report.specs.Texts.{placeText, goesTo, coilText, coilTexts};
+use grouped_rects_to_place::RectToPlace;
+use placement::Placement;
 use text::write_item;
 use text::write_text;
-
-// A coil's row, in the coils and in the placements.
-pub struct CoilRow {}
-
-impl CoilRow {
-    pub const WORDS: usize = 5;
-
-    // What the first word of a placement says of a placed coil.
-    pub const PLACED: u32 = 1;
-}
 
 fn write_place(out: &mut [u8], at: usize, x: u32, y: u32, z: u32) -> usize
     requires { ⌜ at + 37 ≤ length (now out) ⌝ }
@@ -26,37 +20,29 @@ fn write_place(out: &mut [u8], at: usize, x: u32, y: u32, z: u32) -> usize
     write_text(out, past_z, b"\n")
 }
 
-fn write_goes(out: &mut [u8], at: usize, placed: u32, chamber: u32, x: u32, y: u32, z: u32) -> usize
+fn write_goes(out: &mut [u8], at: usize, p: Placement) -> usize
     requires { ⌜ at + 64 ≤ length (now out) ⌝ }
-    ensures { λ r. ⌜ Written at (goesTo placed chamber x y z) (now (out .entry)) (now (out .exit)) r × (r ≤ at + 64) ⌝ }
+    ensures { λ r. ⌜ Written at (goesTo p) (now (out .entry)) (now (out .exit)) r × (r ≤ at + 64) ⌝ }
 {
-    if placed == CoilRow::PLACED {
-        let next = write_item(out, at, b" goes to chamber ", chamber);
-        return write_place(out, next, x, y, z);
+    if p.placed == Placement::PLACED {
+        let next = write_item(out, at, b" goes to chamber ", p.chamber);
+        return write_place(out, next, p.x, p.y, p.z);
     }
     write_text(out, at, b" waits\n")
 }
 
 fn write_coil(out: &mut [u8], at: usize, coils: &[u32], placements: &[u32], i: usize) -> usize
-    requires { ⌜ (at + 80 ≤ length (now out)) × (i * 5 + 5 ≤ length (now coils)) × (i * 5 + 5 ≤ length (now placements)) ⌝ }
+    requires { ⌜ (at + 80 ≤ length (now out)) × HasRect (now coils) i × HasPlacement (now placements) i ⌝ }
     ensures { λ r. ⌜ Written at (coilText (now (coils .entry)) (now (placements .entry)) i) (now (out .entry)) (now (out .exit)) r × (r ≤ at + 80) ⌝ }
 {
-    let row = i * CoilRow::WORDS;
-    let next = write_item(out, at, b"coil ", coils[row]);
-    write_goes(
-        out,
-        next,
-        placements[row],
-        placements[row + 1],
-        placements[row + 2],
-        placements[row + 3],
-        placements[row + 4],
-    )
+    let coil = RectToPlace::read(coils, i);
+    let next = write_item(out, at, b"coil ", coil.id);
+    write_goes(out, next, Placement::read(placements, i))
 }
 
 // The first n coils, at most 80 bytes each.
 pub fn write_coils(out: &mut [u8], at: usize, coils: &[u32], placements: &[u32], n: usize) -> usize
-    requires { ⌜ (at + n * 80 ≤ length (now out)) × (n * 5 ≤ length (now coils)) × (n * 5 ≤ length (now placements)) ⌝ }
+    requires { ⌜ (at + n * 80 ≤ length (now out)) × HasRects (now coils) n × HasPlacements (now placements) n ⌝ }
     ensures { λ r. ⌜ Written at (coilTexts (now (coils .entry)) (now (placements .entry)) n) (now (out .entry)) (now (out .exit)) r × (r ≤ at + n * 80) ⌝ }
 {
     let mut next = at;

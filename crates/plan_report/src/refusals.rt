@@ -3,49 +3,30 @@ ghost use mathlib.Core.Path.{_≡_};
 ghost use Prim.Native.Nat.{_+_, _≤_};
 ghost use lib.ListN.{length, getD};
 ghost use Rattle.text.specs.Written.{Written};
-ghost use Rattle.plan_report.specs.Texts.{refusalText, refusal, namesChamber, lineOf};
+ghost use Rattle.plan_report.specs.Texts.{refusalText, refusal, namesChamber, refusedLine};
 use crate::phrases::write_line_tag;
 use replies::Reply;
 use text::write_item;
 use text::write_text;
 
-// The numbers of a pack's reply that the report tells apart.
-pub struct PackReply {}
-
-impl PackReply {
-    pub const PACKED: u32 = 0;
-
-    pub const BAD_CHAMBER: u32 = 2;
-
-    pub const BAD_SECTION: u32 = 3;
-
-    pub const BAD_SIDE: u32 = 4;
-
-    pub const SAME_ID: u32 = 5;
-
-    pub const TOO_FULL: u32 = 6;
-
-    pub const NO_ROOM: u32 = 7;
-}
-
 fn write_refusal_text(out: &mut [u8], at: usize, number: u32) -> usize
     requires { ⌜ at + 107 ≤ length (now out) ⌝ }
     ensures { λ r. ⌜ Written at (refusalText number) (now (out .entry)) (now (out .exit)) r × (r ≤ at + 107) ⌝ }
 {
-    if number == PackReply::BAD_CHAMBER {
+    if number == Reply::BAD_CHAMBER {
         return write_text(
             out,
             at,
             b"the chamber's id is not above the one before it, or a side is not 1 to 65535\n",
         );
     }
-    if number == PackReply::BAD_SIDE {
+    if number == Reply::BAD_RECTANGLE {
         return write_text(out, at, b"a side of the coil is not 1 to 65535\n");
     }
-    if number == PackReply::SAME_ID {
+    if number == Reply::SAME_ID {
         return write_text(out, at, b"the coil's id stands on an earlier line too\n");
     }
-    if number == PackReply::NO_ROOM {
+    if number == Reply::NOT_ENOUGH_BIN_SPACE {
         return write_text(
             out,
             at,
@@ -79,12 +60,11 @@ fn line_at(lines: &[u32], i: usize) -> u32
 fn names_chamber(number: u32) -> bool
     ensures { λ r. ⌜ r ≡ namesChamber number ⌝ }
 {
-    (number == PackReply::BAD_CHAMBER)
-        | ((number == PackReply::BAD_SECTION) | (number == PackReply::TOO_FULL))
+    (number == Reply::BAD_CHAMBER) | ((number == Reply::BAD_SECTION) | (number == Reply::NO_ROOM))
 }
 
-pub fn line_of(chamber_lines: &[u32], coil_lines: &[u32], answer: Reply) -> u32
-    ensures { λ r. ⌜ r ≡ lineOf (now («chamber_lines» .entry)) (now («coil_lines» .entry)) answer ⌝ }
+pub fn refused_line(chamber_lines: &[u32], coil_lines: &[u32], answer: Reply) -> u32
+    ensures { λ r. ⌜ r ≡ refusedLine (now («chamber_lines» .entry)) (now («coil_lines» .entry)) answer ⌝ }
 {
     let i = answer.detail as usize;
     if names_chamber(answer.number) {

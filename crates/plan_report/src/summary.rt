@@ -1,31 +1,42 @@
 // How many coils are placed, and how many wait.
 ghost use mathlib.Core.Path.{_≡_};
-ghost use Prim.Native.Nat.{_+_, _*_, _≤_};
+ghost use mathlib.Core.Bool.{cond};
+ghost use Prim.Native.Nat.{_+_, _≤_};
 ghost use lib.ListN.{length};
 ghost use Rattle.text.specs.Written.{Written};
-ghost use Rattle.plan_report.specs.Texts.{placedIn, summary};
-use crate::coils::CoilRow;
+ghost use Rattle.placement.specs.Placements.{HasPlacement, HasPlacements};
+ghost use Rattle.plan_report.specs.Texts.{isPlaced, placedCount, summary};
+use placement::Placement;
 use text::write_decimal;
 use text::write_item;
 use text::write_text;
 
+// 1 where the coil at an index is placed.
+fn one_placed(placements: &[u32], i: usize) -> u32
+    requires { ⌜ HasPlacement (now placements) i ⌝ }
+    ensures { λ r. ⌜ (r ≡ cond (isPlaced (now (placements .entry)) i) 1 0) × (r ≤ 1) ⌝ }
+{
+    if Placement::read(placements, i).placed == Placement::PLACED {
+        return 1;
+    }
+    0
+}
+
 fn count_placed(placements: &[u32], n: usize) -> u32
-    requires { ⌜ (n ≤ 63) × (n * 5 ≤ length (now placements)) ⌝ }
-    ensures { λ r. ⌜ (r ≡ placedIn (now (placements .entry)) n) × (r ≤ n) ⌝ }
+    requires { ⌜ (n ≤ 63) × HasPlacements (now placements) n ⌝ }
+    ensures { λ r. ⌜ (r ≡ placedCount (now (placements .entry)) n) × (r ≤ n) ⌝ }
 {
     let mut count: u32 = 0;
     let mut i: usize = 0;
     while i < n {
-        if placements[i * CoilRow::WORDS] == CoilRow::PLACED {
-            count += 1;
-        }
+        count += one_placed(placements, i);
         i += 1;
     }
     count
 }
 
 pub fn write_summary(out: &mut [u8], at: usize, placements: &[u32], n: usize) -> usize
-    requires { ⌜ (at + 38 ≤ length (now out)) × (n ≤ 63) × (n * 5 ≤ length (now placements)) ⌝ }
+    requires { ⌜ (at + 38 ≤ length (now out)) × (n ≤ 63) × HasPlacements (now placements) n ⌝ }
     ensures { λ r. ⌜ Written at (summary (now (placements .entry)) n) (now (out .entry)) (now (out .exit)) r × (r ≤ at + 38) ⌝ }
 {
     let placed = count_placed(placements, n);

@@ -6,13 +6,13 @@ use Rattle.plan_report.proofs.coils.write_coil as it
 
 returns : it.Tie.Need-returns
 unfolding ascii coilText
-returns c = (written-then (search needs) (c .before .before .before .before .before .before .before .before .before .before .before .write-item .ensures .0) (c .before .before .write-goes .ensures .0), search needs)
+returns c =
+    let g = c .before .before in
+    let i = g .before .before .before .before .before in
+    (rw (← (i .before .before .before .read .ensures), ← (g .before .read2 .ensures)) (written-then (search needs) (i .write-item .ensures .0) (g .write-goes .ensures .0)), search needs)
 
 pub write-coil-spec : {M : Type 1} → it.Statement.statement M
 write-coil-spec =
     it.Tie.close
-    (it.Tie.spec (λ c. search needs) (λ c. search needs) (λ c. search needs) (λ c. search needs)
-    (λ c κs. search needs) (λ c. search needs) (λ c. search needs) (λ c. search needs) (λ c. search needs)
-    (λ c. search needs) (λ c. search needs) (λ c. search needs) (λ c. search needs) (λ c. search needs)
-    (λ c. search needs) (λ c. search needs) (λ c. search needs) (λ c. search needs) (λ c. search needs)
-    (λ c κs. search needs) (λ c. search needs) returns)
+    (it.Tie.spec (λ c κs. search needs) (λ c. search needs) (λ c κs. search needs) (λ c κs. search needs) (λ c κs. search needs)
+    (λ c. search needs) returns)

@@ -1,34 +1,15 @@
 use Rattle.lists.proofs.Kit.{needs}
 use Rattle.text.specs.Ascii.{ascii}
-use Rattle.text.proofs.Writing.{written-as, written-by}
+use Rattle.plan_list.proofs.Choices.{choices}
 use Rattle.plan_report.specs.Texts.{refusalText}
-use Rattle.plan_report.proofs.Choosing.{refusal-other}
 use Rattle.plan_report.proofs.refusals.write_refusal_text as it
 
-returns : it.Tie.Need-returns
-unfolding ascii refusalText
-returns c = (written-by refusalText (c .before .before .before .before .before .if1 .taken) (c .before .before .write-text .ensures), search needs)
-
-returns-2 : it.Tie.Need-returns-2
-unfolding ascii refusalText
-returns-2 c = (written-by refusalText (c .before .before .before .before .before .if2 .taken) (c .before .before .write-text2 .ensures), search needs)
-
-returns-3 : it.Tie.Need-returns-3
-unfolding ascii refusalText
-returns-3 c = (written-by refusalText (c .before .before .before .before .before .if3 .taken) (c .before .before .write-text3 .ensures), search needs)
-
-returns-4 : it.Tie.Need-returns-4
-unfolding ascii refusalText
-returns-4 c = (written-by refusalText (c .before .before .before .before .before .if4 .taken) (c .before .before .write-text4 .ensures), search needs)
-
-returns-5 : it.Tie.Need-returns-5
-unfolding ascii refusalText
-returns-5 c = (written-as (refusal-other _ (c .before .before .before .before .before .before .before .before .if1 .left) (c .before .before .before .before .before .before .before .if2 .left) (c .before .before .before .before .before .before .if3 .left) (c .before .before .before .before .before .if4 .left)) (c .before .before .write-text5 .ensures), search needs)
-
 pub write-refusal-text-spec : {M : Type 1} → it.Statement.statement M
+unfolding ascii refusalText
 write-refusal-text-spec =
     it.Tie.close
-    (it.Tie.spec (λ c. search needs) (λ c κs. search needs) (λ c. search needs) returns (λ c. search needs)
-    (λ c κs. search needs) (λ c. search needs) returns-2 (λ c. search needs) (λ c κs. search needs)
-    (λ c. search needs) returns-3 (λ c. search needs) (λ c κs. search needs) (λ c. search needs) returns-4
-    (λ c. search needs) (λ c κs. search needs) (λ c. search needs) returns-5)
+    (it.Tie.spec (λ c. search needs) (λ c κs. search needs) (λ c. search needs) (λ c. (search choices, search needs)) (λ c. search needs)
+    (λ c κs. search needs) (λ c. search needs) (λ c. (search choices, search needs)) (λ c. search needs) (λ c κs. search needs)
+    (λ c. search needs) (λ c. (search choices, search needs)) (λ c. search needs) (λ c κs. search needs) (λ c. search needs)
+    (λ c. (search choices, search needs)) (λ c. search needs) (λ c κs. search needs) (λ c. search needs)
+    (λ c. (search choices, search needs)))
