@@ -2,8 +2,8 @@
 ghost use Prim.Native.Nat.{_+_, _*_, _≤_};
 ghost use lib.ListN.{length};
 ghost use Rattle.text.specs.Written.{Written};
-ghost use Rattle.placement.specs.Placements.{HasPlacement, HasPlacements};
-ghost use Rattle.grouped_rects_to_place.specs.Rect.{HasRect, HasRects};
+ghost use Rattle.placement.specs.Leaning.{HasPlacement, HasPlacements};
+ghost use Rattle.grouped_rects_to_place.specs.Leaning.{HasRect, HasRects};
 ghost use Rattle.plan_report.specs.Texts.{placeText, goesTo, coilText, coilTexts};
 use grouped_rects_to_place::RectToPlace;
 use placement::Placement;

@@ -2,8 +2,8 @@
 ghost use Prim.Native.Nat.{_≤_};
 ghost use lib.ListN.{length};
 ghost use Rattle.text.specs.Written.{Written};
-ghost use Rattle.placement.specs.Placements.{HasPlacements};
-ghost use Rattle.grouped_rects_to_place.specs.Rect.{HasRects};
+ghost use Rattle.placement.specs.Leaning.{HasPlacements};
+ghost use Rattle.grouped_rects_to_place.specs.Leaning.{HasRects};
 ghost use Rattle.plan_report.specs.Texts.{packReport};
 use crate::coils::write_coils;
 use crate::phrases::write_nothing_placed;

@@ -4,7 +4,7 @@ ghost use mathlib.Core.Bool.{cond};
 ghost use Prim.Native.Nat.{_+_, _≤_};
 ghost use lib.ListN.{length};
 ghost use Rattle.text.specs.Written.{Written};
-ghost use Rattle.placement.specs.Placements.{HasPlacement, HasPlacements};
+ghost use Rattle.placement.specs.Leaning.{HasPlacement, HasPlacements};
 ghost use Rattle.plan_report.specs.Texts.{isPlaced, placedCount, summary};
 use placement::Placement;
 use text::write_decimal;

@@ -1,10 +1,10 @@
 // Answers the oracle's jobs: reads each from standard input and writes its answer to standard output.
 // The format of jobs and answers is the wire format of oracle/README.md. It ends with the input, or at a job that is none.
 mod pack_job;
+mod places;
 mod return_job;
 mod tables;
 mod try_job;
-mod words;
 
 ghost use mathlib.Core.Path.{_≡_};
 ghost use Prim.Native.Nat.{_≤_};
@@ -30,7 +30,7 @@ fn main() {
     let mut job = [0u32; MOST_WORDS];
     let mut chambers = [0u32; TargetBin::MOST * TargetBin::WORDS];
     let mut store = [0u32; TargetBin::MOST * TargetBin::STORE];
-    let mut placements = [0u32; pack_job::MOST_WORDS];
+    let mut placements = [0u32; pack_job::PLACEMENT_WORDS];
     let mut answer = [0u32; MOST_WORDS];
     run(
         &mut bytes,

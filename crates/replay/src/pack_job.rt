@@ -2,26 +2,22 @@
 ghost use mathlib.Core.Path.{_≡_};
 ghost use Prim.Native.Nat.{_*_, _≤_};
 ghost use lib.ListN.{length};
+use crate::places::mark;
+use crate::places::put_part;
+use crate::places::wide;
 use crate::tables::MARK;
 use crate::tables::put_reply;
 use crate::tables::put_tables;
 use crate::tables::take_tables;
-use crate::words::fill;
-use crate::words::put_words;
-use crate::words::wide;
 use grouped_rects_to_place::RectToPlace;
+use placement::Placement;
 use rectangle_pack::pack;
 use replies::Reply;
 
-// The words of the placement table, and of the rectangle table.
-pub const MOST_WORDS: usize = RectToPlace::MOST * RectToPlace::WORDS;
+// The words of the placement table.
+pub const PLACEMENT_WORDS: usize = RectToPlace::MOST * Placement::WORDS;
 // What stands in the placement table before a job.
 const UNPLACED: u32 = 0xfeed_f00d;
-// The replies of a pack that was not refused by a check.
-const PACKED: u32 = 0;
-
-const NO_ROOM: u32 = 7;
-
 // The words of the answer with its length; 0 where the job is none.
 pub fn answer(
     job: &[u32],
@@ -38,10 +34,11 @@ pub fn answer(
     if place == 0 {
         return 0;
     }
-    let words = rect_words(job, place);
-    if job.len() - place != words + 1 {
+    let n = rect_count(job, place);
+    if job.len() - place != n * RectToPlace::WORDS + 1 {
         return 0;
     }
+    let seats = n * Placement::WORDS;
     let start = place + 1;
     let end = job.len();
     answer_rects(
@@ -49,15 +46,15 @@ pub fn answer(
         chambers,
         store,
         c,
-        &mut placements[0..words],
+        &mut placements[0..seats],
         answer,
     )
 }
 
-// The words of the rectangles.
-fn rect_words(job: &[u32], place: usize) -> usize
+// How many rectangles there are.
+fn rect_count(job: &[u32], place: usize) -> usize
     requires { ⌜ place ≤ length (now job) ⌝ }
-    ensures { λ r. ⌜ r ≤ 315 ⌝ }
+    ensures { λ r. ⌜ r ≤ 63 ⌝ }
 {
     if job.len() <= place {
         return 0;
@@ -66,7 +63,7 @@ fn rect_words(job: &[u32], place: usize) -> usize
     if RectToPlace::MOST < n {
         return 0;
     }
-    n * RectToPlace::WORDS
+    n
 }
 
 fn answer_rects(
@@ -85,7 +82,7 @@ fn answer_rects(
 }
 
 fn packed(rects: &[u32], chambers: &mut [u32], store: &mut [u32], placements: &mut [u32]) -> Reply {
-    fill(placements, UNPLACED);
+    mark(placements, UNPLACED);
     pack(chambers, store, rects, placements)
 }
 
@@ -102,7 +99,7 @@ fn put_packed(
 {
     let wanted = past_counts(reply.number);
     let placed = put_reply(answer, reply);
-    let tables = put_words(answer, placed, placements.len(), placements, 0);
+    let tables = put_part(answer, placed, placements.len(), placements, 0);
     put_tables(answer, tables, chambers, store, c, wanted)
 }
 
@@ -110,10 +107,10 @@ fn put_packed(
 fn past_counts(number: u32) -> u32
     ensures { λ r. ⌜ (number ≡ 0 → r ≡ 0) × (number ≡ 7 → r ≡ 0) ⌝ }
 {
-    if number == PACKED {
+    if number == Reply::DONE {
         return 0;
     }
-    if number == NO_ROOM {
+    if number == Reply::NOT_ENOUGH_BIN_SPACE {
         return 0;
     }
     MARK

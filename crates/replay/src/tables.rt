@@ -2,11 +2,11 @@
 ghost use mathlib.Core.Path.{_≡_};
 ghost use Prim.Native.Nat.{_+_, _*_, _≤_, _<_};
 ghost use lib.ListN.{length};
-use crate::words::count_others;
-use crate::words::fill;
-use crate::words::put_word;
-use crate::words::put_words;
-use crate::words::take_words;
+use crate::places::count_others;
+use crate::places::mark;
+use crate::places::put_part;
+use crate::places::put_word;
+use crate::places::take_words;
 use bin_section::BinSection;
 use replies::Reply;
 use target_bin::TargetBin;
@@ -23,7 +23,7 @@ pub fn take_tables(job: &[u32], chambers: &mut [u32], store: &mut [u32], c: usiz
     requires { ⌜ (2 ≤ length (now job)) × (c ≤ 16) × (length (now chambers) ≡ c * 5) × (length (now store) ≡ c * 768) ⌝ }
     ensures { λ r. ⌜ r ≤ length (now (job .entry)) ⌝ }
 {
-    fill(store, MARK);
+    mark(store, MARK);
     let mut place = take_words(job, TABLES, c * TargetBin::WORDS, chambers, 0);
     let mut k = 0;
     while k < c {
@@ -77,7 +77,7 @@ pub fn put_tables(
     requires { ⌜ (place ≤ length (now answer)) × (length (now answer) ≤ 65536) × (c ≤ 16) × (length (now chambers) ≡ c * 5) × (length (now store) ≡ c * 768) ⌝ }
     ensures { λ r. ⌜ r ≤ length (now (answer .entry)) ⌝ }
 {
-    let chambers_end = put_words(answer, place, c * TargetBin::WORDS, chambers, 0);
+    let chambers_end = put_part(answer, place, c * TargetBin::WORDS, chambers, 0);
     let sections_end = put_sections(answer, chambers_end, chambers, store, c);
     let stray = count_stray(chambers, store, c, wanted);
     let end = put_word(answer, sections_end, stray);
@@ -99,7 +99,7 @@ fn put_sections(
     let mut k = 0;
     while k < c {
         let words = section_words(chambers, k);
-        place = put_words(answer, place, words, store, k * TargetBin::STORE);
+        place = put_part(answer, place, words, store, k * TargetBin::STORE);
         k += 1;
     }
     place

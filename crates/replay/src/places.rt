@@ -1,18 +1,9 @@
-// Lists of words: copied, filled and counted. A place in a job or an answer is an index past 0; 0 says that the words ran out.
+// Words taken from a job, put to an answer and counted. A place in a job or an answer is an index past 0; 0 says that the words ran out.
 ghost use mathlib.Core.Path.{_≡_};
 ghost use Prim.Native.Nat.{_+_, _≤_};
-ghost use lib.ListN.{length};
-
-fn copy_words(from: &[u32], start: usize, to: &mut [u32], at: usize, n: usize)
-    requires { ⌜ (start + n ≤ length (now from)) × (at + n ≤ length (now to)) ⌝ }
-{
-    let mut i = 0;
-    while i < n {
-        let word = from[start + i];
-        to[at + i] = word;
-        i += 1;
-    }
-}
+ghost use lib.ListN.{length, replicate};
+use words::fill;
+use words::put_words;
 
 // Takes n words of the job from a place on, to the index of a table. The next place, or 0.
 pub fn take_words(job: &[u32], place: usize, n: usize, table: &mut [u32], at: usize) -> usize
@@ -25,12 +16,13 @@ pub fn take_words(job: &[u32], place: usize, n: usize, table: &mut [u32], at: us
     if table.len() - at < n {
         return 0;
     }
-    copy_words(job, place, table, at, n);
-    place + n
+    let end = place + n;
+    put_words(table, at, &job[place..end]);
+    end
 }
 
 // Puts n words of a table, from an index on, to a place of the answer. The next place, or 0; at 0 nothing is put.
-pub fn put_words(answer: &mut [u32], place: usize, n: usize, table: &[u32], at: usize) -> usize
+pub fn put_part(answer: &mut [u32], place: usize, n: usize, table: &[u32], at: usize) -> usize
     requires { ⌜ (place ≤ length (now answer)) × (at ≤ length (now table)) ⌝ }
     ensures { λ r. ⌜ r ≤ length (now (answer .entry)) ⌝ }
 {
@@ -43,7 +35,8 @@ pub fn put_words(answer: &mut [u32], place: usize, n: usize, table: &[u32], at: 
     if table.len() - at < n {
         return 0;
     }
-    copy_words(table, at, answer, place, n);
+    let end = at + n;
+    put_words(answer, place, &table[at..end]);
     place + n
 }
 
@@ -61,15 +54,12 @@ pub fn put_word(answer: &mut [u32], place: usize, word: u32) -> usize
     place + 1
 }
 
-pub fn fill(words: &mut [u32], word: u32) -> usize
-    ensures { λ r. ⌜ r ≡ length (now (words .entry)) ⌝ }
+// Sets every word to one value.
+pub fn mark(words: &mut [u32], word: u32)
+    ensures { λ _. ⌜ now (words .exit) ≡ replicate (length (now (words .entry))) word ⌝ }
 {
-    let mut i = 0;
-    while i < words.len() {
-        words[i] = word;
-        i += 1;
-    }
-    i
+    let n = words.len();
+    fill(words, 0, n, word);
 }
 
 pub fn wide(word: u32) -> usize

@@ -1,5 +1,5 @@
 use Rattle.lists.proofs.Kit.{needs, _-_, _≤_, length}
-use Rattle.replay.proofs.words.count_others as it
+use Rattle.replay.proofs.places.count_others as it
 
 abbrev Inv-loop : it.Tie.InvT-loop
 Inv-loop words start wanted n₀ i₀ n i = (n ≤ i) × (i ≤ length words)
