@@ -1,13 +1,12 @@
 -- A list packed: fresh chambers, then the pack.
 use Prim.Native.Nat.{ℕ, _*_}
-use mathlib.Core.Path.{_≡_}
 use mathlib.Core.List.{List}
 use mathlib.Core.Bool.{cond}
 use lib.Dec.{eqb}
-use lib.ListN.{length, take, replicate}
-use Rattle.replies.specs.declared.reply.Reply.{Reply}
+use lib.ListN.{length, replicate}
 use Rattle.target_bin.specs.Outcome.{Outcome}
 use Rattle.target_bin.specs.Fresh.{freshOf}
+use Rattle.placement.specs.Placements.{placementWidth}
 use Rattle.rectangle_pack.specs.Pack.{PackOutcome, packOutcome, packOf}
 use Rattle.plan_list.specs.List.{Reading}
 
@@ -23,11 +22,5 @@ packFresh chambers store coils placements = packedAfter (freshOf chambers store)
 -- of a list, with tables of the lengths that it asks for
 unfoldable pub packedList : Reading → PackOutcome
 packedList r =
-    packFresh (r .chambers) (replicate (length (r .chamberLines) * 768) 0) (r .coils) (replicate (length (r .coils)) 0)
-
--- ---- What the code leans on.
-
--- the reply and the first n placements are the outcome's
-pub record PackedFront (o : PackOutcome) (n : ℕ) (placements : List ℕ) (r : Reply) : Type 0 where
-  pub answer : r ≡ o .reply
-  pub placed : take (n * 5) placements ≡ o .placements
+    packFresh (r .chambers .words) (replicate (length (r .chambers .lines) * 768) 0) (r .coils .words)
+    (replicate (length (r .coils .lines) * placementWidth) 0)

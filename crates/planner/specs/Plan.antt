@@ -3,7 +3,6 @@ use Prim.Native.Nat.{ℕ}
 use mathlib.Core.List.{List}
 use mathlib.Core.Bool.{cond}
 use lib.Dec.{eqb}
-use lib.ListN.{length}
 use Rattle.rectangle_pack.specs.Pack.{PackOutcome}
 use Rattle.plan_list.specs.List.{Reading, readOf}
 use Rattle.plan_report.specs.Texts.{slipReport, packReport}
@@ -11,7 +10,7 @@ use Rattle.planner.specs.Packed.{packedList}
 
 -- where each coil goes and which coils wait, and a refusal in words
 unfoldable pub packText : Reading → PackOutcome → List ℕ
-packText r o = packReport (r .chamberLines) (r .coilLines) (r .coils) (o .placements) (length (r .coilLines)) (o .reply)
+packText r o = packReport (r .chambers .lines) (r .coils .lines) (r .coils .words) (o .placements) (o .reply)
 
 -- the report of a list
 unfoldable pub listReport : Reading → List ℕ

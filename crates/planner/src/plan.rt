@@ -1,13 +1,18 @@
 // The list's text to the report's text.
 ghost use mathlib.Core.Path.{_≡_};
 ghost use Prim.Native.Nat.{_*_, _≤_};
-ghost use lib.ListN.{length, take, replicate};
+ghost use lib.ListN.{length, take};
 ghost use Rattle.text.specs.Written.{Written};
-ghost use Rattle.plan_list.specs.Table.{readingOf, Few, Sized};
+ghost use Rattle.placement.specs.Placements.{placementWidth};
+ghost use Rattle.placement.specs.Leaning.{HasPlacements};
+ghost use Rattle.grouped_rects_to_place.specs.Rect.{rectWidth};
+ghost use Rattle.grouped_rects_to_place.specs.Leaning.{HasRects};
+ghost use Rattle.plan_list.specs.Table.{tables, readingOf, Few, Sized};
 ghost use Rattle.plan_report.specs.Texts.{packReport};
 ghost use Rattle.planner.specs.Plan.{listReport, planOf};
 use crate::packed::pack_front;
 use grouped_rects_to_place::RectToPlace;
+use placement::Placement;
 use plan_list::ListRead;
 use plan_list::read_list;
 use plan_report::Report;
@@ -21,30 +26,30 @@ struct PlanTables {}
 impl PlanTables {
     // The words of the store for as many chambers as there can be.
     const STORE: usize = TargetBin::MOST * TargetBin::STORE;
+    // The words of the placements of as many coils as there can be.
+    const PLACEMENTS: usize = RectToPlace::MOST * Placement::WORDS;
 }
 
-// The report of the first n coils of longer tables, and of the first `bins` chambers.
+// The report of as many coils of longer tables as have a line.
 fn report_front(
-    bins: usize,
-    n: usize,
+    out: &mut [u8],
     chamber_lines: &[u32],
     coil_lines: &[u32],
     coils: &[u32],
     placements: &[u32],
     answer: Reply,
-    out: &mut [u8],
 ) -> usize
-    requires { ⌜ (n ≤ 63) × (bins ≤ length (now «chamber_lines»)) × (n ≤ length (now «coil_lines»)) × (n * 5 ≤ length (now coils)) × (n * 5 ≤ length (now placements)) × (8192 ≤ length (now out)) ⌝ }
-    ensures { λ r. ⌜ Written 0 (packReport (take bins (now («chamber_lines» .entry))) (take n (now («coil_lines» .entry))) (take (n * 5) (now (coils .entry))) (take (n * 5) (now (placements .entry))) n answer) (now (out .entry)) (now (out .exit)) r ⌝ }
+    requires { ⌜ (length (now «coil_lines») ≤ 63) × HasRects (now coils) (length (now «coil_lines»)) × HasPlacements (now placements) (length (now «coil_lines»)) × (8192 ≤ length (now out)) ⌝ }
+    ensures { λ r. ⌜ Written 0 (packReport (now («chamber_lines» .entry)) (now («coil_lines» .entry)) (take (length (now («coil_lines» .entry)) * rectWidth) (now (coils .entry))) (take (length (now («coil_lines» .entry)) * placementWidth) (now (placements .entry))) answer) (now (out .entry)) (now (out .exit)) r ⌝ }
 {
-    let words = n * RectToPlace::WORDS;
+    let coil_words = coil_lines.len() * RectToPlace::WORDS;
+    let placement_words = coil_lines.len() * Placement::WORDS;
     write_report(
         out,
-        &chamber_lines[0..bins],
-        &coil_lines[0..n],
-        &coils[0..words],
-        &placements[0..words],
-        n,
+        chamber_lines,
+        coil_lines,
+        &coils[0..coil_words],
+        &placements[0..placement_words],
         answer,
     )
 }
@@ -56,25 +61,23 @@ fn pack_list(
     chamber_lines: &[u32],
     coils: &[u32],
     coil_lines: &[u32],
-    store: &mut [u32],
-    placements: &mut [u32],
     out: &mut [u8],
 ) -> usize
-    requires { ⌜ Few l × Sized (now chambers) (now «chamber_lines») (now coils) (now «coil_lines») × (now store ≡ replicate 12288 0) × (now placements ≡ replicate 315 0) × (8192 ≤ length (now out)) ⌝ }
-    ensures { λ r. ⌜ Written 0 (listReport (readingOf l (now (chambers .entry)) (now («chamber_lines» .entry)) (now (coils .entry)) (now («coil_lines» .entry)))) (now (out .entry)) (now (out .exit)) r ⌝ }
+    requires { ⌜ Few l × Sized (tables (now chambers) (now «chamber_lines») (now coils) (now «coil_lines»)) × (8192 ≤ length (now out)) ⌝ }
+    ensures { λ r. ⌜ Written 0 (listReport (readingOf l (tables (now (chambers .entry)) (now («chamber_lines» .entry)) (now (coils .entry)) (now («coil_lines» .entry))))) (now (out .entry)) (now (out .exit)) r ⌝ }
 {
     let bins = l.chambers;
     let n = l.coils;
-    let answer = pack_front(bins, n, chambers, store, coils, placements);
+    let mut store = [0u32; PlanTables::STORE];
+    let mut placements = [0u32; PlanTables::PLACEMENTS];
+    let answer = pack_front(bins, n, chambers, &mut store, coils, &mut placements);
     report_front(
-        bins,
-        n,
-        chamber_lines,
-        coil_lines,
-        coils,
-        placements,
-        answer,
         out,
+        &chamber_lines[0..bins],
+        &coil_lines[0..n],
+        coils,
+        &placements,
+        answer,
     )
 }
 
@@ -96,16 +99,12 @@ pub fn write_plan(text: &[u8], out: &mut [u8; Report::MOST]) -> usize
     if l.slip != 0 {
         return write_slip(out, l.line, l.slip, l.word);
     }
-    let mut store = [0u32; PlanTables::STORE];
-    let mut placements = [0u32; ListRead::COIL_TABLE];
     pack_list(
         l,
         &mut chambers,
         &chamber_lines,
         &coils,
         &coil_lines,
-        &mut store,
-        &mut placements,
         out,
     )
 }

@@ -1,15 +1,15 @@
-use Rattle.lists.proofs.Kit.{refl, sym, now, needs}
+use Rattle.lists.proofs.Kit.{sym, now, needs}
 use Rattle.planner.proofs.Fronts.{slip-reported, plan-reported}
 use Rattle.planner.proofs.plan.write_plan as it
 
 returns : it.Tie.Need-returns
-returns c = let a = c .before .before .before .before .before .before .before .before .before .before .args in slip-reported (now (a .text)) _ _ _ _ _ (c .before .before .before .before .read-list .ensures .0) _ _ _ (c .before .before .if1 .taken) (c .write-slip .ensures .0)
+returns c = let a = c .before .before .before .before .before .before .before .before .before .before .args in slip-reported (now (a .text)) _ _ (c .before .before .before .before .read-list .ensures .0) _ _ _ (c .before .before .if1 .taken) (c .write-slip .ensures .0)
 
 pack-list-requires : it.Tie.Need-pack-list-requires
-pack-list-requires c κs = (c .before .before .before .before .before .before .before .before .before .read-list .ensures .1, c .before .before .before .before .before .before .before .before .before .read-list .ensures .2, refl, refl, search needs)
+pack-list-requires c κs = (c .before .before .before .before .before .before .before .read-list .ensures .1, c .before .before .before .before .before .before .before .read-list .ensures .2, search needs)
 
 returns-2 : it.Tie.Need-returns-2
-returns-2 c = let a = c .before .before .before .before .before .before .before .before .before .before .before .before .before .before .before .before .before .before .before .args in plan-reported (now (a .text)) _ _ _ _ _ (c .before .before .before .before .before .before .before .before .before .before .before .before .before .read-list .ensures .0) _ _ _ (c .before .before .before .before .before .before .before .before .before .before .before .if1 .left) (c .before .before .before .pack-list .ensures)
+returns-2 c = let a = c .before .before .before .before .before .before .before .before .before .before .before .before .before .before .before .args in plan-reported (now (a .text)) _ _ (c .before .before .before .before .before .before .before .before .before .read-list .ensures .0) _ _ _ (c .before .before .before .before .before .before .before .if1 .left) (c .before .pack-list .ensures)
 
 pub write-plan-spec : {M : Type 1} → it.Statement.statement M
 write-plan-spec =
@@ -19,4 +19,4 @@ write-plan-spec =
     (λ c. sym (c .before .before .before .before .read-list .ensures .2 .chamberLines))
     (λ c. sym (c .before .before .before .before .before .read-list .ensures .2 .coils))
     (λ c. sym (c .before .before .before .before .before .before .read-list .ensures .2 .coilLines))
-    (λ c. search needs) (λ c. search needs) pack-list-requires returns-2)
+    pack-list-requires returns-2)
