@@ -99,12 +99,5 @@ pub fn write_plan(text: &[u8], out: &mut [u8; Report::MOST]) -> usize
     if l.slip != 0 {
         return write_slip(out, l.line, l.slip, l.word);
     }
-    pack_list(
-        l,
-        &mut chambers,
-        &chamber_lines,
-        &coils,
-        &coil_lines,
-        out,
-    )
+    pack_list(l, &mut chambers, &chamber_lines, &coils, &coil_lines, out)
 }
