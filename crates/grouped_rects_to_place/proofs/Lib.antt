@@ -1,3 +1,4 @@
+pub mod Layouts
 pub mod Checking
 pub mod Grouping
 pub mod Ordering

@@ -25,12 +25,6 @@ module _ {A : Type 0} where
   getD-tab (suc n) f zero d h = refl
   getD-tab (suc n) f (suc i) d h = getD-tab n (λ k. f (suc k)) i d (le-of-suc-le-suc h)
 
-  pub take-tab : (k n : ℕ) (f : ℕ → A) → k ≤ n → take k (tab n f) ≡ tab k f
-  unfolding tab
-  take-tab zero n f h = refl
-  take-tab (suc k) zero f h = absurd (not-suc-le-zero h)
-  take-tab (suc k) (suc n) f h = ap (λ (r : List A). f zero ∷ r) (take-tab k n (λ j. f (suc j)) (le-of-suc-le-suc h))
-
   -- one more
   pub tab-suc : (n : ℕ) (f : ℕ → A) → tab (suc n) f ≡ tab n f ++ (f n ∷ [])
   unfolding tab

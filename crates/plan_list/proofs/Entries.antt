@@ -65,10 +65,6 @@ module _ (k n : ℕ) (t : Listed) where
   unfolding front
   front-lines h = length-take-le n (t .lines) h
 
-  pub front-words : n * k ≤ length (t .words) → length (front k n t .words) ≡ n * k
-  unfolding front
-  front-words h = length-take-le (n * k) (t .words) h
-
 -- ---- all tables
 
 -- where no table changed

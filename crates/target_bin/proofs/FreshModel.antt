@@ -14,7 +14,7 @@ use Rattle.target_bin.specs.declared.chamber.TargetBin.{TargetBin}
 use Rattle.target_bin.specs.Chambers.{bin, binWords, chamberAt, chamberCount, chambersOf}
 use Rattle.target_bin.specs.Store.{partAt, partOf, freeOf, storeOf}
 use Rattle.target_bin.specs.Fresh.{freshened, freshTable, freshStore}
-use Rattle.target_bin.proofs.Tables.{length-chambersOf, getD-chambersOf, count-tableOf, chamberAt-tableOf, table-decoded}
+use Rattle.target_bin.proofs.Tables.{length-chambersOf, getD-chambersOf, count-tableOf, chamberAt-tableOf}
 use Rattle.target_bin.proofs.Parts.{length-partOf, sections-partOf, partAt-storeOf, store-decoded}
 use Rattle.bin_section.proofs.Ranges.{SidesInRange}
 use Rattle.target_bin.proofs.Passing.{Lengths, ShapesSound, Sound}
@@ -26,11 +26,6 @@ getD-map-in f (x ∷ xs) zero e d h = refl
 getD-map-in f (x ∷ xs) (suc i) e d h = getD-map-in f xs i e d (omega arith)
 
 module _ (chambers : List ℕ) where
-  -- each chamber as it was, with count 1
-  pub fresh-chambers : chambersOf (freshTable chambers) ≡ map (λ b. freshened b) (chambersOf chambers)
-  unfolding freshTable
-  fresh-chambers = table-decoded (map (λ b. freshened b) (chambersOf chambers))
-
   many : length (map (λ b. freshened b) (chambersOf chambers)) ≡ chamberCount chambers
   many = length-map (chambersOf chambers) (λ b. freshened b) ∙ length-chambersOf chambers
 

@@ -8,7 +8,7 @@ use lib.ListN.{length, getD, take, drop, set, length-set}
 use lib.Seq.{getD-set-same, getD-set-other, take-all}
 use Rattle.lists.specs.Tab.{tab}
 use Rattle.lists.proofs.Tabs.{length-tab, getD-tab, tab-set, middle}
-use Rattle.words.proofs.Records.{Layout, length-joined, encoded, decoded, at-joined}
+use Rattle.words.proofs.Records.{Layout, length-joined, encoded, at-joined}
 use Rattle.bin_section.specs.Sides.{sides}
 use Rattle.target_bin.specs.declared.chamber.TargetBin.{TargetBin}
 use Rattle.target_bin.specs.Chambers.{bin, chamberAt, binWords, chamberCount, chambersOf, tableOf}
@@ -49,13 +49,6 @@ count-tableOf bins = omega (arith, length-tableOf bins)
 -- the chamber at an index of a table that was written
 pub chamberAt-tableOf : (bins : List TargetBin) (i : ℕ) (d : TargetBin) → i < length bins → chamberAt (tableOf bins) i ≡ getD bins i d
 chamberAt-tableOf = at-joined 5 chamberAt (λ b. binWords b) chamber-layout
-
--- what is written, read again
-pub table-decoded : (bins : List TargetBin) → chambersOf (tableOf bins) ≡ bins
-unfolding chambersOf
-table-decoded bins =
-    decoded 5 chamberAt (λ b. binWords b) chamber-layout bins (tableOf bins) (chamberCount (tableOf bins)) (bin 0 (sides 0 0 0) 0) (sym (count-tableOf bins))
-    (take-all (chamberCount (tableOf bins) * 5) (tableOf bins) (omega (arith, count-tableOf bins, length-tableOf bins)))
 
 -- ---- one count written
 

@@ -9,7 +9,6 @@ use Rattle.replies.proofs.Ladders.{AllPass}
 use Rattle.bin_section.specs.declared.rect_to_insert.RectToInsert.{RectToInsert}
 use Rattle.bin_section.specs.declared.section.BinSection.{BinSection}
 use Rattle.bin_section.specs.Section.{zeroSection}
-use Rattle.bin_section.specs.Sides.{Small}
 use Rattle.try_place.specs.declared.packed_location.PackedLocation.{PackedLocation}
 use Rattle.try_place.specs.declared.TryAnswer.the-variants.{Placed}
 use Rattle.try_place.specs.declared.Tried.{Tried}
@@ -56,9 +55,6 @@ row-long s r (suc (suc (suc (suc (suc (suc k)))))) h = absurd (omega arith)
 
 pub within-reachable : (s b : BinSection) → Reachable s → Within s b → Reachable b
 within-reachable s b p w = omega arith
-
-within-small : (s b : BinSection) → Reachable s → Within s b → Small (b .whd)
-within-small s b p w = omega arith
 
 pub fitting : (s : BinSection) (r : RectToInsert) → Reachable s → AllPass (fitChecks s r) → Fitting s r
 unfolding fitChecks
