@@ -20,7 +20,7 @@ use Rattle.box_input.specs.declared.InputHead.{InputHead}
 use Rattle.box_input.specs.declared.BoxInput.{BoxInput}
 use Rattle.box_input.specs.declared.BoxInput.the-variants.{Boxes, NoInput}
 use Rattle.box_input.specs.Input.{inputChamber, inputPlacedCount, inputFreeCount, inputPlaced, inputFree, isInput}
-use Rattle.box_input.specs.Read.{reading, readOf}
+use Rattle.box_input.specs.Read.{inputRead, inputOf}
 use Rattle.box_input.proofs.Reading.{none-read, was-read, cut-input}
 use Rattle.audit_input.specs.Line.{inputReply, lineOf}
 
@@ -33,7 +33,7 @@ module _ (b : List ℕ) where
   unfolding inputReply
   reply-input h = rw h
 
-  module _ (p₀ f₀ p f : List ℕ) (input : BoxInput) (e : reading input p f ≡ readOf b p₀ f₀) where
+  module _ (p₀ f₀ p f : List ℕ) (input : BoxInput) (e : inputRead input p f ≡ inputOf b p₀ f₀) where
     pub reply-unread : input ≡ NoInput → reply 1 0 ≡ inputReply b
     reply-unread n = reply-none (none-read b p₀ f₀ p f input e n)
 

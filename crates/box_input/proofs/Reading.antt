@@ -17,7 +17,7 @@ use Rattle.box_input.specs.declared.InputHead.{InputHead}
 use Rattle.box_input.specs.declared.BoxInput.{BoxInput}
 use Rattle.box_input.specs.declared.BoxInput.the-variants.{Boxes, NoInput}
 use Rattle.box_input.specs.Input.{headWord, headOf, inputPlacedCount, inputFreeCount, inputPlaced, inputFree, isInput}
-use Rattle.box_input.specs.Read.{Reading, reading, placedTable, freeTable, readOf}
+use Rattle.box_input.specs.Read.{InputRead, inputRead, placedTable, freeTable, inputOf}
 
 -- ---- the code's parts
 
@@ -91,15 +91,15 @@ pub record WasRead (b : List ℕ) (said : InputHead) (p f : List ℕ) : Type 0 w
   pub free-words : take (said .free * 6) f ≡ inputFree b
 
 module _ (b p₀ f₀ : List ℕ) where
-  read-none : isInput b ≡ false → reading NoInput p₀ f₀ ≡ readOf b p₀ f₀
-  unfolding readOf
+  read-none : isInput b ≡ false → inputRead NoInput p₀ f₀ ≡ inputOf b p₀ f₀
+  unfolding inputOf
   read-none h = rw h
 
-  pub nothing-read : (t : Bool) → t ≡ isInput b → not t ≡ true → reading NoInput p₀ f₀ ≡ readOf b p₀ f₀
+  pub nothing-read : (t : Bool) → t ≡ isInput b → not t ≡ true → inputRead NoInput p₀ f₀ ≡ inputOf b p₀ f₀
   nothing-read t e h = read-none (sym e ∙ not-true t h)
 
-  read-input : isInput b ≡ true → reading (Boxes (headOf b)) (placedTable b p₀) (freeTable b f₀) ≡ readOf b p₀ f₀
-  unfolding readOf
+  read-input : isInput b ≡ true → inputRead (Boxes (headOf b)) (placedTable b p₀) (freeTable b f₀) ≡ inputOf b p₀ f₀
+  unfolding inputOf
   read-input h = rw h
 
   pub boxes-read :
@@ -109,12 +109,12 @@ module _ (b p₀ f₀ : List ℕ) where
       → said ≡ headOf b
       → p ≡ wordsIn (drop 25 b) (said .placed * 6) ++ drop (said .placed * 6) p₀
       → f ≡ wordsIn (drop (25 + said .placed * 24) b) (said .free * 6) ++ drop (said .free * 6) f₀
-      → reading (Boxes said) p f ≡ readOf b p₀ f₀
+      → inputRead (Boxes said) p f ≡ inputOf b p₀ f₀
   boxes-read t said p f e h s ep ef = rw (ep, ef, s) (read-input (sym e ∙ not-false t h))
 
-  module _ (p f : List ℕ) (input : BoxInput) (e : reading input p f ≡ readOf b p₀ f₀) where
+  module _ (p f : List ℕ) (input : BoxInput) (e : inputRead input p f ≡ inputOf b p₀ f₀) where
     pub none-read : input ≡ NoInput → isInput b ≡ false
-    none-read n = never (isInput b) (λ h. go (sym n ∙ ap (λ (r : Reading). r .answer) (e ∙ sym (read-input h))))
+    none-read n = never (isInput b) (λ h. go (sym n ∙ ap (λ (r : InputRead). r .answer) (e ∙ sym (read-input h))))
       where
         go : NoInput ≡ Boxes (headOf b) → ⊥
         go q = let z : _≡_ {A = ℕ} 0 1 = cc in omega arith
@@ -128,13 +128,13 @@ module _ (b p₀ f₀ : List ℕ) where
         go : (t : Bool) → isInput b ≡ t → WasRead b said p f
         go true h =
             let q = e ∙ sym (read-input h) in
-            let a : Boxes said ≡ Boxes (headOf b) = sym n ∙ ap (λ (r : Reading). r .answer) q in
+            let a : Boxes said ≡ Boxes (headOf b) = sym n ∙ ap (λ (r : InputRead). r .answer) q in
             let s : said ≡ headOf b = cc in
             record {
               input = h;
               head = s;
               few-boxes = rw s (few b h);
-              placed-words = rw (s, ap (λ (r : Reading). r .placed) q) (take-at (inputPlaced b) _ _ (length-wordsIn (drop 25 b) _));
-              free-words = rw (s, ap (λ (r : Reading). r .free) q) (take-at (inputFree b) _ _ (length-wordsIn _ _));
+              placed-words = rw (s, ap (λ (r : InputRead). r .placed) q) (take-at (inputPlaced b) _ _ (length-wordsIn (drop 25 b) _));
+              free-words = rw (s, ap (λ (r : InputRead). r .free) q) (take-at (inputFree b) _ _ (length-wordsIn _ _));
             }
-        go false h = absurd (none (sym n ∙ ap (λ (r : Reading). r .answer) (e ∙ sym (read-none h))))
+        go false h = absurd (none (sym n ∙ ap (λ (r : InputRead). r .answer) (e ∙ sym (read-none h))))

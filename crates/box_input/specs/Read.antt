@@ -7,13 +7,13 @@ use Rattle.box_input.specs.declared.BoxInput.{BoxInput}
 use Rattle.box_input.specs.declared.BoxInput.the-variants.{Boxes, NoInput}
 use Rattle.box_input.specs.Input.{headOf, inputPlacedCount, inputFreeCount, inputPlaced, inputFree, isInput}
 
-pub record Reading : Type 0 where
+pub record InputRead : Type 0 where
   pub answer : BoxInput
   pub placed : List ℕ
   pub free : List ℕ
 
-abbrev pub reading : BoxInput → List ℕ → List ℕ → Reading
-reading answer placed free = record { answer = answer; placed = placed; free = free }
+abbrev pub inputRead : BoxInput → List ℕ → List ℕ → InputRead
+inputRead answer placed free = record { answer = answer; placed = placed; free = free }
 
 -- the boxes' words at the front, and the table's other words as they were
 abbrev pub placedTable : List ℕ → List ℕ → List ℕ
@@ -23,6 +23,6 @@ abbrev pub freeTable : List ℕ → List ℕ → List ℕ
 freeTable b table = inputFree b ++ drop (inputFreeCount b * 6) table
 
 -- an input is read, and what is none changes no word
-unfoldable pub readOf : List ℕ → List ℕ → List ℕ → Reading
-readOf b placed free =
-    cond (isInput b) (reading (Boxes (headOf b)) (placedTable b placed) (freeTable b free)) (reading NoInput placed free)
+unfoldable pub inputOf : List ℕ → List ℕ → List ℕ → InputRead
+inputOf b placed free =
+    cond (isInput b) (inputRead (Boxes (headOf b)) (placedTable b placed) (freeTable b free)) (inputRead NoInput placed free)

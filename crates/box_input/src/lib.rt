@@ -5,7 +5,7 @@ ghost use mathlib.Core.List.{_++_};
 ghost use Prim.Native.Nat.{_+_, _*_, _≤_};
 ghost use lib.ListN.{length, drop};
 ghost use Rattle.wire.specs.Word.{wordsIn};
-ghost use Rattle.box_input.specs.Read.{reading, readOf};
+ghost use Rattle.box_input.specs.Read.{inputRead, inputOf};
 
 mod head;
 
@@ -78,7 +78,7 @@ fn read_boxes(bytes: &[u8], said: InputHead, placed: &mut [u32], free: &mut [u32
 // Reads an input: the words of its boxes go to the front of the two tables, whose other words stay. Each has room for all boxes.
 pub fn read_input(bytes: &[u8], placed: &mut [u32], free: &mut [u32]) -> BoxInput
     requires { ⌜ (6144 ≤ length (now placed)) × (6144 ≤ length (now free)) ⌝ }
-    ensures { λ r. ⌜ reading r (now (placed .exit)) (now (free .exit)) ≡ readOf (now (bytes .entry)) (now (placed .entry)) (now (free .entry)) ⌝ }
+    ensures { λ r. ⌜ inputRead r (now (placed .exit)) (now (free .exit)) ≡ inputOf (now (bytes .entry)) (now (placed .entry)) (now (free .entry)) ⌝ }
 {
     if !is_input(bytes) {
         return BoxInput::NoInput;

@@ -13,8 +13,8 @@ use Rattle.sections.specs.Sections.{allWords}
 use Rattle.target_bin.specs.Store.{storeOf}
 use Rattle.target_bin.specs.Outcome.{outcome}
 use Rattle.rectangle_pack.specs.Pack.{packOutcome}
-use Rattle.examples.specs.Shown.{Tables, freshened}
-use Rattle.examples.specs.Job.{Job, tries, returns, packs, replies, audits, Outcome, ofTry, ofReturn, ofPack, ofReply, ofAudit}
+use Rattle.examples.specs.Shown.{LentTables, freshShown}
+use Rattle.examples.specs.Job.{Job, tries, returns, packs, replies, audits, Answer, ofTry, ofReturn, ofPack, ofReply, ofAudit}
 
 infix 80 _by_by_
 infix 80 _detail_
@@ -27,10 +27,10 @@ infix 68 _gives_
 -- a row: a job, and what it gives
 pub record Example : Type 0 where
   pub job : Job
-  pub outcome : Outcome
+  pub answer : Answer
 
-abbrev pub _gives_ : Job → Outcome → Example
-j gives o = record { job = j; outcome = o }
+abbrev pub _gives_ : Job → Answer → Example
+j gives o = record { job = j; answer = o }
 
 -- ---- what jobs are about
 
@@ -66,7 +66,7 @@ abbrev pub chamberWords : Chamber → ℕ → List ℕ
 chamberWords c count = c .id ∷ c .whd .width ∷ c .whd .height ∷ c .whd .depth ∷ count ∷ []
 
 -- the tables of such chambers
-abbrev pub tablesOf : List WithFree → Tables
+abbrev pub tablesOf : List WithFree → LentTables
 tablesOf cs =
     record {
       chambers = joined (λ (c : WithFree). chamberWords (c .chamber) (length (c .sections))) cs;
@@ -74,10 +74,10 @@ tablesOf cs =
     }
 
 -- "fresh 10x10x1". The tables are lent with other words in them.
-unfoldable pub fresh : List Chamber → Tables
-unfolding freshened
+unfoldable pub fresh : List Chamber → LentTables
+unfolding freshShown
 fresh cs =
-    freshened (record { chambers = joined (λ (c : Chamber). chamberWords c 77) cs; store = replicate (length cs * 768) 9 })
+    freshShown (record { chambers = joined (λ (c : Chamber). chamberWords c 77) cs; store = replicate (length cs * 768) 9 })
 
 -- "Rectangle record, 5 words: id, group (0 for none), width, height, depth"
 abbrev pub coil : ℕ → ℕ → WidthHeightDepth → List ℕ
@@ -110,34 +110,34 @@ lentPlacements coils = replicate (length coils * 5) 9
 abbrev pub try : WidthHeightDepth → BinSection → Job
 try whd s = tries (record { whd = whd }) s
 
-abbrev pub split_ties_volumes_appended_ : ℕ → ℕ → List ℕ → List BinSection → Outcome
+abbrev pub split_ties_volumes_appended_ : ℕ → ℕ → List ℕ → List BinSection → Answer
 split s ties t volumes vs appended bs = ofTry (record { number = 0; split = s; ties = t; volumes = vs; appended = bs })
 
 -- "a refused try returns a zero location and zero sections"
-abbrev pub refused : ℕ → Outcome
-refused n = ofTry (record { number = n; split = 0; ties = 0; volumes = 0 ∷ 0 ∷ 0 ∷ []; appended = [] })
+abbrev pub refusedWith : ℕ → Answer
+refusedWith n = ofTry (record { number = n; split = 0; ties = 0; volumes = 0 ∷ 0 ∷ 0 ∷ []; appended = [] })
 
 -- ---- a return of a box to the chamber that has the id, and both tables afterwards
 
-abbrev pub return : Tables → ℕ → BinSection → Job
+abbrev pub return : LentTables → ℕ → BinSection → Job
 return = returns
 
-abbrev pub returned_leaving_ : Reply → List WithFree → Outcome
+abbrev pub returned_leaving_ : Reply → List WithFree → Answer
 returned r leaving cs = ofReturn (outcome r (tablesOf cs .chambers) (tablesOf cs .store))
 
 -- ---- a pack of coils, and all tables afterwards
 
-abbrev pub pack : Tables → List (List ℕ) → Job
+abbrev pub pack : LentTables → List (List ℕ) → Job
 pack tables coils = packs tables (allOf coils) (lentPlacements coils)
 
-abbrev pub packed_placements_leaving_ : Reply → List (List ℕ) → List WithFree → Outcome
+abbrev pub packed_placements_leaving_ : Reply → List (List ℕ) → List WithFree → Answer
 packed r placements ps leaving cs = ofPack (packOutcome r (tablesOf cs .chambers) (tablesOf cs .store) (allOf ps))
 
 -- where the reply and its detail alone are said
-abbrev pub packReply : Tables → List (List ℕ) → Job
+abbrev pub packReply : LentTables → List (List ℕ) → Job
 packReply tables coils = replies tables (allOf coils) (lentPlacements coils)
 
-abbrev pub replied : Reply → Outcome
+abbrev pub replied : Reply → Answer
 replied = ofReply
 
 -- ---- an audit of placed and of free boxes, the box that it shows, and what all their volumes sum to
@@ -145,5 +145,5 @@ replied = ofReply
 abbrev pub audit : WidthHeightDepth → List BinSection → List BinSection → Job
 audit whd placed open′ = audits whd (allWords placed) (allWords open′)
 
-abbrev pub audited_shown_sum_ : Reply → List BinSection → ℕ → Outcome
+abbrev pub audited_shown_sum_ : Reply → List BinSection → ℕ → Answer
 audited r shown bs sum n = ofAudit (record { reply = r; shown = allWords bs; sum = n })

@@ -44,7 +44,7 @@ use Rattle.rectangle_pack.specs.Pack.{PackOutcome, rectLengthsOk, rectChecks, p
 use Rattle.audit.specs.Audit as auditing
 
 -- the chamber table and the store, as words
-pub record Tables : Type 0 where
+pub record LentTables : Type 0 where
   pub chambers : List ℕ
   pub store : List ℕ
 
@@ -67,10 +67,10 @@ unfoldable pub tied : List (List BinSection) → ℕ
 unfolding sumTo
 tied t = sumTo 6 (λ k. asGood t (getD (ranksOf t) k zeroRanked))
 
-unfoldable pub tried : RectToInsert → BinSection → TryShown
+unfoldable pub tryShown : RectToInsert → BinSection → TryShown
 unfolding tied sideOk spanOk inOrder fitChecks fitOf tryChecks tryOf sixSplits chosen ranksOf bestOf bestFrom laterOf betterOf
     appendedOf larger keptOne kept insertBy insertAll
-tried r s =
+tryShown r s =
     let t = tryOf s r in
     let n = numberOf (t .answer) in
     record {
@@ -83,30 +83,30 @@ tried r s =
 
 -- ---- a return and a pack: all that they leave, as the rules say it
 
-unfoldable pub returned : Tables → ℕ → BinSection → tables.Outcome
+unfoldable pub returnShown : LentTables → ℕ → BinSection → tables.Outcome
 unfolding lowest anyBelow put inOrder sectionAt spansMeet overlapsOf spanInside insideOf sideOk joined
     chamberAt lengthsOk idOk shapeOk chamberOk badSections partAt partOf chamberOf
     ret.pushChecks ret.returnChecks ret.returned ret.returnOf
-returned t id box = ret.returnOf (t .chambers) (t .store) id box
+returnShown t id box = ret.returnOf (t .chambers) (t .store) id box
 
-unfoldable pub packed : Tables → List ℕ → List ℕ → PackOutcome
+unfoldable pub packShown : LentTables → List ℕ → List ℕ → PackOutcome
 unfolding lowest anyBelow picked sumTo tab removeAt inOrder sectionAt spanInside insideOf sideOk sections joined
     chamberAt lengthsOk idOk shapeOk chamberOk badSections partAt freeAt freeOf partOf
     rectAt badRect repeatedId sameGroup leadOf isLead share groupVolume keyWith comesBefore earlier groupOrder groupsOf
     fitChecks fitOf sixSplits chosen ranksOf bestOf bestFrom laterOf betterOf appendedOf larger keptOne kept insertBy insertAll
     placeFrom placeOne placeAll placeGroup order.goesBefore order.triedBefore order.trialOrder seated
     rectsAt trialIn firstWhole changed packGroups rectLengthsOk noRoom rectChecks packChecks start packing binsWith written packOf
-packed t rects placements = packOf (t .chambers) (t .store) rects placements
+packShown t rects placements = packOf (t .chambers) (t .store) rects placements
 
 -- of a pack, the reply alone
-unfoldable pub replied : Tables → List ℕ → List ℕ → Reply
-unfolding packed
-replied t rects placements = packed t rects placements .reply
+unfoldable pub replyShown : LentTables → List ℕ → List ℕ → Reply
+unfolding packShown
+replyShown t rects placements = packShown t rects placements .reply
 
 -- the tables that fresh leaves
-unfoldable pub freshened : Tables → Tables
+unfoldable pub freshShown : LentTables → LentTables
 unfolding lowest tab inOrder joined chamberAt lengthsOk idOk shapeOk sideOk chambersOf partOf freshTable freshStore freshOf
-freshened t =
+freshShown t =
     let f = freshOf (t .chambers) (t .store) in
     record { chambers = f .chambers; store = f .store }
 
@@ -119,9 +119,9 @@ pub record AuditShown : Type 0 where
   -- what the volumes of all boxes sum to
   pub sum : ℕ
 
-unfoldable pub audited : WidthHeightDepth → List ℕ → List ℕ → AuditShown
+unfoldable pub auditShown : WidthHeightDepth → List ℕ → List ℕ → AuditShown
 unfolding lowest anyBelow tab inOrder sectionAt spansMeet overlapsOf spanInside insideOf sideOk volumes
     sections auditing.auditBoxes auditing.boxListsOk sharesEarlier auditing.auditReply auditing.shownOf auditing.auditOf
-audited whd placed free =
+auditShown whd placed free =
     let a = auditing.auditOf whd placed free in
     record { reply = a .reply; shown = a .shown; sum = volumes (auditing.auditBoxes placed free) }

@@ -19,7 +19,7 @@ use Rattle.examples.specs.Rows.{
   waits,
   try,
   split_ties_volumes_appended_,
-  refused,
+  refusedWith,
   return,
   returned_leaving_,
   pack,
@@ -41,7 +41,7 @@ table =
     -- P3: "4x4x4 in 4x4x4: no section remains."
     ∷ try (4 by 4 by 4) (box 0 0 0 4 4 4) gives split 6 ties 6 volumes (0 ∷ 0 ∷ 0 ∷ []) appended []
     -- P4: "5x5x5 in 4x4x4: 12."
-    ∷ try (5 by 5 by 5) (box 0 0 0 4 4 4) gives refused 12
+    ∷ try (5 by 5 by 5) (box 0 0 0 4 4 4) gives refusedWith 12
     -- P5: "fresh 10x10x1, ungrouped ids 7 then 3, both 4x4x1: id 3 at 0,0,0, id 7 at 4,0,0; free (0,4,0;10,6,1), (8,0,0;2,4,1)."
     ∷ pack (fresh (chamber 1 (10 by 10 by 1) ∷ [])) (coil 7 ungrouped (4 by 4 by 1) ∷ coil 3 ungrouped (4 by 4 by 1) ∷ [])
     gives packed (0 detail 0) placements (goes 1 4 0 0 ∷ goes 1 0 0 0 ∷ [])
@@ -80,16 +80,16 @@ table =
     gives replied (6 detail 0)
     -- "Side 65,535 passes, 65,536 doesn't."
     ∷ try (65535 by 65535 by 65535) (box 0 0 0 65535 65535 65535) gives split 6 ties 6 volumes (0 ∷ 0 ∷ 0 ∷ []) appended []
-    ∷ try (1 by 1 by 1) (box 0 0 0 65536 1 1) gives refused 3
-    ∷ try (1 by 65536 by 1) (box 0 0 0 1 1 1) gives refused 4
+    ∷ try (1 by 1 by 1) (box 0 0 0 65536 1 1) gives refusedWith 3
+    ∷ try (1 by 65536 by 1) (box 0 0 0 1 1 1) gives refusedWith 4
     -- the largest boxes that remain, an origin that would wrap in 32 bits, and the order of 3 and 4
     ∷ try (1 by 1 by 1) (box 0 0 0 65535 65535 65535)
     gives split 6 ties 6 volumes (65534 ∷ 4294770690 ∷ 281457797169150 ∷ [])
     appended (box 0 0 1 65535 65535 65534 ∷ box 0 1 0 65535 65534 1 ∷ box 1 0 0 65534 1 1 ∷ [])
-    ∷ try (1 by 1 by 1) (box 4294967295 0 0 1 1 1) gives refused 3
-    ∷ try (0 by 1 by 1) (box 0 0 0 0 1 1) gives refused 3
+    ∷ try (1 by 1 by 1) (box 4294967295 0 0 1 1 1) gives refusedWith 3
+    ∷ try (0 by 1 by 1) (box 0 0 0 0 1 1) gives refusedWith 3
     ∷ []
 
-pub examples-hold : map (λ (e : Example). answered (e .job)) table ≡ map (λ (e : Example). e .outcome) table
+pub examples-hold : map (λ (e : Example). answered (e .job)) table ≡ map (λ (e : Example). e .answer) table
 unfolding answered fresh coils table
 examples-hold = refl

@@ -16,7 +16,7 @@ use Rattle.grouped_rects_to_place.specs.Rect.{rectWidth, rectWords}
 use Rattle.plan_list.specs.declared.line_said.LineSaid.{LineSaid}
 use Rattle.plan_list.specs.declared.line_said.LineSaid.the-variants.{Nothing, Chamber, Coil, Slipped}
 use Rattle.plan_list.specs.declared.list.ListRead.{ListRead}
-use Rattle.plan_list.specs.List.{Listed, listed, withEntry, Reading, reading, added}
+use Rattle.plan_list.specs.List.{Entries, entries, withEntry, Reading, reading, added}
 use Rattle.plan_list.specs.Table.{front, rest, Tables, readingOf, Past, Few, Sized}
 use Rattle.plan_list.specs.Leaning.{slippedRead, oneChamber, oneCoil, Entered, Step}
 
@@ -31,7 +31,7 @@ unfolding put
 drop-put w vs at m h e =
     drop-at (take at w ++ vs) (drop (at + length vs) w) m (simp (length-append, length-take) (omega arith)) ∙ ap (λ (i : ℕ). drop i w) (sym e)
 
-module _ (k n : ℕ) (words : List ℕ) (line : ℕ) (t t′ : Listed) (e : Entered k n words line t t′) (size : length words ≡ k) (fits : n * k + k ≤ length (t .words)) (room : n < length (t .lines)) where
+module _ (k n : ℕ) (words : List ℕ) (line : ℕ) (t t′ : Entries) (e : Entered k n words line t t′) (size : length words ≡ k) (fits : n * k + k ≤ length (t .words)) (room : n < length (t .lines)) where
   next : (n + 1) * k ≡ n * k + length words
   next = rw add-one (omega (arith, suc-mul n k))
 
@@ -41,26 +41,26 @@ module _ (k n : ℕ) (words : List ℕ) (line : ℕ) (t t′ : Listed) (e : Ente
   pub front-more : front k (n + 1) t′ ≡ withEntry words line (front k n t)
   unfolding front
   front-more =
-      ap₂ listed (ap (take ((n + 1) * k)) (e .put-words) ∙ take-put (t .words) words (n * k) ((n + 1) * k) (omega arith) next)
+      ap₂ entries (ap (take ((n + 1) * k)) (e .put-words) ∙ take-put (t .words) words (n * k) ((n + 1) * k) (omega arith) next)
       (ap (take (n + 1)) one-line ∙ take-put (t .lines) (line ∷ []) n (n + 1) (omega arith) refl)
 
   pub rest-more : rest k (n + 1) t′ ≡ rest k (n + 1) t
   unfolding rest
   rest-more =
-      ap₂ listed (ap (drop ((n + 1) * k)) (e .put-words) ∙ drop-put (t .words) words (n * k) ((n + 1) * k) (omega arith) next)
+      ap₂ entries (ap (drop ((n + 1) * k)) (e .put-words) ∙ drop-put (t .words) words (n * k) ((n + 1) * k) (omega arith) next)
       (ap (drop (n + 1)) one-line ∙ drop-put (t .lines) (line ∷ []) n (n + 1) (omega arith) refl)
 
 drop-more : (k m : ℕ) (x y : List ℕ) → k ≤ m → drop k x ≡ drop k y → drop m x ≡ drop m y
 drop-more k m x y h e = let whole : k + (m - k) ≡ m = omega arith in rw (← whole, ← drop-drop (m - k) k x, ← drop-drop (m - k) k y, e)
 
 -- past more entries too
-rest-later : (k n m : ℕ) (x y : Listed) → n ≤ m → rest k n x ≡ rest k n y → rest k m x ≡ rest k m y
+rest-later : (k n m : ℕ) (x y : Entries) → n ≤ m → rest k n x ≡ rest k n y → rest k m x ≡ rest k m y
 unfolding rest
 rest-later k n m x y h e =
-    ap₂ listed (drop-more (n * k) (m * k) (x .words) (y .words) (mul-le-mul-right k h) (ap (λ (t : Listed). t .words) e))
-    (drop-more n m (x .lines) (y .lines) h (ap (λ (t : Listed). t .lines) e))
+    ap₂ entries (drop-more (n * k) (m * k) (x .words) (y .words) (mul-le-mul-right k h) (ap (λ (t : Entries). t .words) e))
+    (drop-more n m (x .lines) (y .lines) h (ap (λ (t : Entries). t .lines) e))
 
-module _ (k n : ℕ) (t : Listed) where
+module _ (k n : ℕ) (t : Entries) where
   pub front-lines : n ≤ length (t .lines) → length (front k n t .lines) ≡ n
   unfolding front
   front-lines h = length-take-le n (t .lines) h
@@ -79,8 +79,8 @@ past-then l r t t′ t″ m p q =
       coils = q .coils ∙ rest-later rectWidth (l .coils) (r .coils) (t′ .coils) (t .coils) (m .1) (p .coils);
     }
 
-module _ (l l′ : ListRead) (x y : Listed) (s : LineSaid) (few : Few l) where
-  abbrev both : Listed → Listed → Tables
+module _ (l l′ : ListRead) (x y : Entries) (s : LineSaid) (few : Few l) where
+  abbrev both : Entries → Entries → Tables
   both a b = record { chambers = a; coils = b }
 
   pub step-nothing : s ≡ Nothing → Step (added s) l l (both x y) (both x y)
@@ -100,7 +100,7 @@ module _ (l l′ : ListRead) (x y : Listed) (s : LineSaid) (few : Few l) where
 
   module _ (sized : Sized (both x y)) where
     pub step-chamber :
-        (b : TargetBin) (x′ : Listed)
+        (b : TargetBin) (x′ : Entries)
         → s ≡ Chamber b
         → l .chambers < 16
         → (l′ ≡ oneChamber l) × Entered 5 (l .chambers) (binWords b) (l .line) x x′
@@ -112,7 +112,7 @@ module _ (l l′ : ListRead) (x y : Listed) (s : LineSaid) (few : Few l) where
         rw (q, e)
         (record {
           same =
-              ap (λ (t : Listed). reading t (front rectWidth (l .coils) y) (l .line) (l .slip) (l .word))
+              ap (λ (t : Entries). reading t (front rectWidth (l .coils) y) (l .line) (l .slip) (l .word))
               (front-more 5 (l .chambers) (binWords b) (l .line) x x′ w refl fits lines);
           few = record { chambers = omega arith; coils = few .coils };
           more = (omega arith, omega arith);
@@ -120,7 +120,7 @@ module _ (l l′ : ListRead) (x y : Listed) (s : LineSaid) (few : Few l) where
         })
 
     pub step-coil :
-        (c : RectToPlace) (y′ : Listed)
+        (c : RectToPlace) (y′ : Entries)
         → s ≡ Coil c
         → l .coils < 63
         → (l′ ≡ oneCoil l) × Entered rectWidth (l .coils) (rectWords c) (l .line) y y′
@@ -132,7 +132,7 @@ module _ (l l′ : ListRead) (x y : Listed) (s : LineSaid) (few : Few l) where
         rw (q, e)
         (record {
           same =
-              ap (λ (t : Listed). reading (front 5 (l .chambers) x) t (l .line) (l .slip) (l .word))
+              ap (λ (t : Entries). reading (front 5 (l .chambers) x) t (l .line) (l .slip) (l .word))
               (front-more rectWidth (l .coils) (rectWords c) (l .line) y y′ w refl fits lines);
           few = record { chambers = few .chambers; coils = omega arith };
           more = (omega arith, omega arith);

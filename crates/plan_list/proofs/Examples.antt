@@ -7,11 +7,11 @@ use Rattle.text.specs.Ascii.{ascii}
 use Rattle.plan_list.specs.Words.{isOf, firstOf, ontoFirst, split, filled, linesOf, uncommented, wordsOf, sameBytes}
 use Rattle.plan_list.specs.Number.{withDigit, saidAfter, said}
 use Rattle.plan_list.specs.Said.{firstUnsaid, chamberFrom, coilSlip, coilFrom, aboveZero, groupSaid, chamberSaid, coilSaid, lineSaid}
-use Rattle.plan_list.specs.List.{listed, reading, added, addWords, addLine, addLines, readOf}
+use Rattle.plan_list.specs.List.{entries, reading, added, addWords, addLine, addLines, readOf}
 
 -- a chamber, a comment, a blank line, a coil of no group behind a tab, and one of group 5 with no newline behind it
 good : readOf (ascii "chamber 1 10 9 8\r\n# note\n\n\tcoil 7 none 4 3 2 # x\ncoil 8 5 1 1 1")
-    ≡ reading (listed (1 ∷ 10 ∷ 9 ∷ 8 ∷ 0 ∷ []) (1 ∷ [])) (listed (7 ∷ 0 ∷ 4 ∷ 3 ∷ 2 ∷ 8 ∷ 5 ∷ 1 ∷ 1 ∷ 1 ∷ []) (4 ∷ 5 ∷ [])) 5 0 0
+    ≡ reading (entries (1 ∷ 10 ∷ 9 ∷ 8 ∷ 0 ∷ []) (1 ∷ [])) (entries (7 ∷ 0 ∷ 4 ∷ 3 ∷ 2 ∷ 8 ∷ 5 ∷ 1 ∷ 1 ∷ 1 ∷ []) (4 ∷ 5 ∷ [])) 5 0 0
 unfolding lowest anyBelow ascii isOf firstOf ontoFirst split filled linesOf uncommented wordsOf sameBytes withDigit saidAfter said firstUnsaid chamberFrom coilSlip coilFrom aboveZero groupSaid chamberSaid coilSaid lineSaid added addWords addLine addLines readOf
 good = refl
 

@@ -7,7 +7,7 @@ use Rattle.lists.specs.Tab.{put}
 use Rattle.plan_list.specs.declared.line_said.LineSaid.{LineSaid}
 use Rattle.plan_list.specs.declared.line_said.LineSaid.the-variants.{Nothing, Chamber, Coil, Slipped}
 use Rattle.plan_list.specs.declared.list.ListRead.{ListRead}
-use Rattle.plan_list.specs.List.{Listed, Reading}
+use Rattle.plan_list.specs.List.{Entries, Reading}
 use Rattle.plan_list.specs.Table.{Tables, readingOf, Past, Few}
 
 -- ---- how far a list was read
@@ -40,7 +40,7 @@ HasRoom (Coil c) chambers coils = coils < 63
 HasRoom (Slipped slip word) chambers coils = Unit
 
 -- the entry at index n is written, of k words
-pub record Entered (k n : ℕ) (words : List ℕ) (line : ℕ) (t t′ : Listed) : Type 0 where
+pub record Entered (k n : ℕ) (words : List ℕ) (line : ℕ) (t t′ : Entries) : Type 0 where
   pub put-words : t′ .words ≡ put (t .words) (n * k) words
   pub put-line : t′ .lines ≡ set (t .lines) n line
 

@@ -15,30 +15,30 @@ use Rattle.plan_list.specs.Words.{linesOf, uncommented, wordsOf, isOf}
 use Rattle.plan_list.specs.Said.{lineSaid}
 
 -- a table for a pack, and the line of each entry
-pub record Listed : Type 0 where
+pub record Entries : Type 0 where
   pub words : List ℕ
   pub lines : List ℕ
 
-abbrev pub listed : List ℕ → List ℕ → Listed
-listed words lines = record { words = words; lines = lines }
+abbrev pub entries : List ℕ → List ℕ → Entries
+entries words lines = record { words = words; lines = lines }
 
 -- one entry more
-abbrev pub withEntry : List ℕ → ℕ → Listed → Listed
-withEntry words line t = listed (t .words ++ words) (t .lines ++ (line ∷ []))
+abbrev pub withEntry : List ℕ → ℕ → Entries → Entries
+withEntry words line t = entries (t .words ++ words) (t .lines ++ (line ∷ []))
 
 -- what was read: chambers, coils, how many lines were looked at, and the slip in the last of them, with the word that it is about
 pub record Reading : Type 0 where
-  pub chambers : Listed
-  pub coils : Listed
+  pub chambers : Entries
+  pub coils : Entries
   pub line : ℕ
   pub slip : ℕ
   pub word : ℕ
 
-abbrev pub reading : Listed → Listed → ℕ → ℕ → ℕ → Reading
+abbrev pub reading : Entries → Entries → ℕ → ℕ → ℕ → Reading
 reading chambers coils line slip word = record { chambers = chambers; coils = coils; line = line; slip = slip; word = word }
 
 abbrev pub atLine : ℕ → Reading
-atLine n = reading (listed [] []) (listed [] []) n 0 0
+atLine n = reading (entries [] []) (entries [] []) n 0 0
 
 abbrev pub nextLine : Reading → Reading
 nextLine r = reading (r .chambers) (r .coils) (r .line + 1) (r .slip) (r .word)

@@ -5,22 +5,22 @@ use mathlib.Core.List.{List}
 use lib.ListN.{length, take, drop}
 use Rattle.grouped_rects_to_place.specs.Rect.{rectWidth}
 use Rattle.plan_list.specs.declared.list.ListRead.{ListRead}
-use Rattle.plan_list.specs.List.{Listed, listed, Reading, reading}
+use Rattle.plan_list.specs.List.{Entries, entries, Reading, reading}
 
 -- the first n entries of a table, of k words each; and what stands past them
-unfoldable pub front : ℕ → ℕ → Listed → Listed
-front k n t = listed (take (n * k) (t .words)) (take n (t .lines))
+unfoldable pub front : ℕ → ℕ → Entries → Entries
+front k n t = entries (take (n * k) (t .words)) (take n (t .lines))
 
-unfoldable pub rest : ℕ → ℕ → Listed → Listed
-rest k n t = listed (drop (n * k) (t .words)) (drop n (t .lines))
+unfoldable pub rest : ℕ → ℕ → Entries → Entries
+rest k n t = entries (drop (n * k) (t .words)) (drop n (t .lines))
 
 -- the lent tables
 pub record Tables : Type 0 where
-  pub chambers : Listed
-  pub coils : Listed
+  pub chambers : Entries
+  pub coils : Entries
 
 abbrev pub tables : List ℕ → List ℕ → List ℕ → List ℕ → Tables
-tables chambers chamberLines coils coilLines = record { chambers = listed chambers chamberLines; coils = listed coils coilLines }
+tables chambers chamberLines coils coilLines = record { chambers = entries chambers chamberLines; coils = entries coils coilLines }
 
 -- the tables up to their counts
 unfoldable pub readingOf : ListRead → Tables → Reading

@@ -6,7 +6,7 @@ ghost use lib.ListN.{length, drop};
 ghost use Rattle.target_bin.specs.Chambers.{binWords};
 ghost use Rattle.grouped_rects_to_place.specs.Rect.{rectWidth, rectWords};
 ghost use Rattle.plan_list.specs.Words.{isOf, firstOf, linesOf};
-ghost use Rattle.plan_list.specs.List.{listed, added, addLine, addLines, atLine, lineAt, readOf};
+ghost use Rattle.plan_list.specs.List.{entries, added, addLine, addLines, atLine, lineAt, readOf};
 ghost use Rattle.plan_list.specs.Table.{tables, readingOf, Past, Few, Sized};
 ghost use Rattle.plan_list.specs.Leaning.{startAt, nextRead, slippedRead, oneChamber, oneCoil, HasRoom, Entered, Step};
 use crate::line_said::LineSaid;
@@ -77,7 +77,7 @@ impl ListRead {
 // One chamber more, with its line.
 fn add_chamber(bin: TargetBin, l: ListRead, chambers: &mut [u32], lines: &mut [u32]) -> ListRead
     requires { ⌜ (l .chambers < 16) × (length (now chambers) ≡ 16 * 5) × (length (now lines) ≡ 16) ⌝ }
-    ensures { λ r. ⌜ (r ≡ oneChamber l) × Entered 5 (l .chambers) (binWords bin) (l .line) (listed (now (chambers .entry)) (now (lines .entry))) (listed (now (chambers .exit)) (now (lines .exit))) ⌝ }
+    ensures { λ r. ⌜ (r ≡ oneChamber l) × Entered 5 (l .chambers) (binWords bin) (l .line) (entries (now (chambers .entry)) (now (lines .entry))) (entries (now (chambers .exit)) (now (lines .exit))) ⌝ }
 {
     let n = l.chambers;
     bin.write(chambers, n);
@@ -94,7 +94,7 @@ fn add_chamber(bin: TargetBin, l: ListRead, chambers: &mut [u32], lines: &mut [u
 // One coil more, with its line.
 fn add_coil(rect: RectToPlace, l: ListRead, coils: &mut [u32], lines: &mut [u32]) -> ListRead
     requires { ⌜ (l .coils < 63) × (length (now coils) ≡ 63 * rectWidth) × (length (now lines) ≡ 63) ⌝ }
-    ensures { λ r. ⌜ (r ≡ oneCoil l) × Entered rectWidth (l .coils) (rectWords rect) (l .line) (listed (now (coils .entry)) (now (lines .entry))) (listed (now (coils .exit)) (now (lines .exit))) ⌝ }
+    ensures { λ r. ⌜ (r ≡ oneCoil l) × Entered rectWidth (l .coils) (rectWords rect) (l .line) (entries (now (coils .entry)) (now (lines .entry))) (entries (now (coils .exit)) (now (lines .exit))) ⌝ }
 {
     let n = l.coils;
     rect.write(coils, n);

@@ -1,5 +1,6 @@
 // Checks 1 to 3, and the chamber of an id. Fresh makes 1 and 2 without the counts; pack and return make all three first.
 ghost use mathlib.Core.Path.{_≡_};
+ghost use mathlib.Core.Bool.{cond};
 ghost use Prim.Native.Nat.{_+_, _*_, _≤_};
 ghost use lib.ListN.{length};
 ghost use Rattle.lists.specs.Lowest.{lowest};
@@ -54,29 +55,25 @@ fn chamber_ok(chambers: &[u32], i: usize) -> bool
     shape_ok(chambers, i) & (bin.count <= TargetBin::SECTIONS)
 }
 
-// Check 2 with "old counts ignored": the first faulty chamber, or their number where none is.
-pub fn first_bad_shape(chambers: &[u32]) -> usize
-    ensures { λ r. ⌜ r ≡ lowest (chamberCount (now (chambers .entry))) (badShape (now (chambers .entry))) ⌝ }
+// Check 2 of chamber i; where the counts are not looked at, with "old counts ignored".
+fn bad_chamber(chambers: &[u32], i: usize, counts: bool) -> bool
+    requires { ⌜ i * 5 + 5 ≤ length (now chambers) ⌝ }
+    ensures { λ b. ⌜ b ≡ cond counts (badChamber (now (chambers .entry)) i) (badShape (now (chambers .entry)) i) ⌝ }
 {
-    let n = chambers.len() / TargetBin::WORDS;
-    let mut i = 0;
-    while i < n {
-        if !shape_ok(chambers, i) {
-            return i;
-        }
-        i += 1;
+    if counts {
+        return !chamber_ok(chambers, i);
     }
-    n
+    !shape_ok(chambers, i)
 }
 
-// Check 2: the first faulty chamber, or their number where none is.
-pub fn first_bad_chamber(chambers: &[u32]) -> usize
-    ensures { λ r. ⌜ r ≡ lowest (chamberCount (now (chambers .entry))) (badChamber (now (chambers .entry))) ⌝ }
+// The first chamber that check 2 fires at, or their number where it does not fire.
+pub fn first_bad_chamber(chambers: &[u32], counts: bool) -> usize
+    ensures { λ r. ⌜ r ≡ lowest (chamberCount (now (chambers .entry))) (λ i. cond counts (badChamber (now (chambers .entry)) i) (badShape (now (chambers .entry)) i)) ⌝ }
 {
     let n = chambers.len() / TargetBin::WORDS;
     let mut i = 0;
     while i < n {
-        if !chamber_ok(chambers, i) {
+        if bad_chamber(chambers, i, counts) {
             return i;
         }
         i += 1;
@@ -120,9 +117,9 @@ pub fn check_tables(chambers: &[u32], store: &[u32]) -> Reply
         return Reply::new(Reply::BAD_LENGTH, 0);
     }
     let n = chambers.len() / TargetBin::WORDS;
-    let bad_chamber = first_bad_chamber(chambers);
-    if bad_chamber < n {
-        return Reply::new(Reply::BAD_CHAMBER, bad_chamber as u32);
+    let faulty = first_bad_chamber(chambers, true);
+    if faulty < n {
+        return Reply::new(Reply::BAD_CHAMBER, faulty as u32);
     }
     let bad_section = first_bad_section(chambers, store);
     if bad_section < n {

@@ -10,7 +10,7 @@ ghost use Rattle.target_bin.specs.Store.{partOf};
 ghost use Rattle.target_bin.specs.Outcome.{outcome};
 ghost use Rattle.target_bin.specs.Fresh.{freshened, freshTable, freshStore, freshOf};
 use crate::chamber::TargetBin;
-use crate::checks::first_bad_shape;
+use crate::checks::first_bad_chamber;
 use crate::checks::lengths_ok;
 use bin_section::BinSection;
 use bin_section::WidthHeightDepth;
@@ -24,7 +24,7 @@ pub fn fresh(chambers: &mut [u32], store: &mut [u32]) -> Reply
     if !lengths_ok(chambers, store) {
         return Reply::new(Reply::BAD_LENGTH, 0);
     }
-    let bad = first_bad_shape(chambers);
+    let bad = first_bad_chamber(chambers, false);
     if bad < chambers.len() / TargetBin::WORDS {
         return Reply::new(Reply::BAD_CHAMBER, bad as u32);
     }

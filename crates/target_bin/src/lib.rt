@@ -10,7 +10,6 @@ pub use checks::check_tables;
 pub use checks::find_chamber;
 pub use checks::first_bad_chamber;
 pub use checks::first_bad_section;
-pub use checks::first_bad_shape;
 pub use checks::lengths_ok;
 pub use freshen::fresh;
 pub use returns::return_section;

@@ -1,24 +1,25 @@
-use Rattle.lists.proofs.Kit.{_≤_, _-_, _≡_, sym, ap, _∙_, not, needs}
+use mathlib.Core.Bool.{cond}
+use Rattle.lists.proofs.Kit.{_≤_, _-_, _≡_, sym, _∙_, needs}
 use Rattle.lists.proofs.Lowests.{None, none-zero, none-more, lowest-here, lowest-end}
 use Rattle.target_bin.specs.Chambers.{chamberCount}
-use Rattle.target_bin.specs.Checks.{badChamber}
+use Rattle.target_bin.specs.Checks.{badShape, badChamber}
 use Rattle.target_bin.proofs.checks.first_bad_chamber as it
 
 abbrev Inv-loop : it.Tie.InvT-loop
-Inv-loop chambers n i₀ i = (n ≡ chamberCount chambers) × ((i ≤ n) × None i (badChamber chambers))
+Inv-loop chambers counts n i₀ i = (n ≡ chamberCount chambers) × ((i ≤ n) × None i (λ k. cond counts (badChamber chambers k) (badShape chambers k)))
 
 abbrev μ-loop : it.Tie.MeasureT-loop
-μ-loop chambers n i₀ i = n - i
+μ-loop chambers counts n i₀ i = n - i
 
 returns : it.Tie.Need-returns Inv-loop μ-loop
 returns c =
     let h = c .before .before .before in
-    sym (lowest-here _ _ _ (h .loop .inv .1 .1) (search needs) (ap not (sym (c .before .chamber-ok .ensures)) ∙ c .if1 .taken))
+    sym (lowest-here _ _ _ (h .loop .inv .1 .1) (search needs) (sym (c .before .bad-chamber .ensures) ∙ c .if1 .taken))
 
 loop-again : it.Tie.Need-loop-again Inv-loop μ-loop
 loop-again c =
     let h = c .before .before .before in
-    (search needs, (search needs, none-more _ _ (h .loop .inv .1 .1) (ap not (sym (c .before .chamber-ok .ensures)) ∙ c .if1 .left)))
+    (search needs, (search needs, none-more _ _ (h .loop .inv .1 .1) (sym (c .before .bad-chamber .ensures) ∙ c .if1 .left)))
 
 pub first-bad-chamber-spec : {M : Type 1} → it.Statement.statement M
 first-bad-chamber-spec =
