@@ -1,7 +1,6 @@
 -- What checks 1, 2 and 3 mean: they pass exactly where the tables are sound.
 use Prim.Native.Nat.{ℕ, zero, suc, _*_, _-_, _%_, _≤_, _<_}
 use mathlib.Core.Path.{_≡_, refl, sym, ap, _∙_}
-use mathlib.Core.Logic.{_↔_}
 use mathlib.Core.List.{List, [], _∷_}
 use mathlib.Core.Bool.{Bool, true, false, _&&_, not}
 use native.Mathlib.Omega.{arith}
