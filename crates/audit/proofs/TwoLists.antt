@@ -18,7 +18,8 @@ use Rattle.bin_section.specs.Section.{sectionAt, zeroSection, sectionWords}
 use Rattle.bin_section.specs.Overlap.{overlapsOf}
 use Rattle.cells.specs.Whole.{boxAt, Inside, AllInside, volumes}
 use Rattle.sections.specs.Sections.{sections}
-use Rattle.sections.specs.Inside.{sharesAt, sharesEarlier, AllSmall}
+use Rattle.sections.specs.Inside.{sharesAt, sharesEarlier}
+use Rattle.sections.specs.Leaning.{AllSmall}
 use Rattle.sections.proofs.Reading.{length-sections, getD-sections}
 use Rattle.bin_section.proofs.Words.{section-layout}
 use Rattle.sections.proofs.Searching.{volumes-append}

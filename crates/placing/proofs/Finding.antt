@@ -22,7 +22,6 @@ use Rattle.try_place.specs.declared.TryAnswer.the-variants.{
   PlacementDeeperThanBinSection,
 }
 use Rattle.try_place.proofs.TryAnswer.{the-type}
-use Rattle.try_place.specs.declared.Tried as Try
 use Rattle.try_place.specs.Try.{fitOf, onPlaced}
 use Rattle.packing_rules.specs.Appended.{appendedOf}
 use Rattle.packing_rules.specs.Rules.{nowhere, placed, placeFrom, placeOne}
@@ -53,15 +52,15 @@ module _ (count : ℕ) (r : RectToInsert) (w : List ℕ) where
   free-at i h = getD-sections w count i zeroSection h
 
   pub tried-more :
-      (i : ℕ) (t : Try.Tried)
+      (i : ℕ) (a : TryAnswer)
       → Tried count r w i
       → 0 < i
-      → t ≡ fitOf (sectionAt w (i - 1)) r
-      → OneOf (1 ∷ 2 ∷ 3 ∷ 4 ∷ 5 ∷ []) (tagOf the-type (t .answer))
+      → a ≡ fitOf (sectionAt w (i - 1)) r .answer
+      → OneOf (1 ∷ 2 ∷ 3 ∷ 4 ∷ 5 ∷ []) (tagOf the-type a)
       → Tried count r w (i - 1)
   unfolding placeFrom
-  tried-more zero t p h f o = absurd (omega arith)
-  tried-more (suc i) t p h f o =
+  tried-more zero a p h f o = absurd (omega arith)
+  tried-more (suc i) a p h f o =
       let e : suc i - 1 ≡ i = omega arith in
       rw e
       (record {
@@ -69,7 +68,7 @@ module _ (count : ℕ) (r : RectToInsert) (w : List ℕ) where
         same =
             sym
             (rw (free-at i (omega (arith, p .most)), ← (rw e at f))
-            (refused-else (t .answer) (λ l. placed l (removeAt i (sections w count) ++ appendedOf (t .sections))) (placeFrom (sections w count) r i) o))
+            (refused-else a (λ l. placed l (removeAt i (sections w count) ++ appendedOf (fitOf (sectionAt w i) r .sections))) (placeFrom (sections w count) r i) o))
             ∙ p .same;
       })
 

@@ -4,7 +4,9 @@ ghost use Prim.Native.Nat.{_+_, _*_, _≤_, _<_};
 ghost use lib.ListN.{length};
 ghost use Rattle.lists.specs.Tab.{removeAt};
 ghost use Rattle.sections.specs.Sections.{sections};
-ghost use Rattle.try_place.specs.Leaning.{SmallBoxes};
+ghost use Rattle.bin_section.specs.Section.{sectionAt};
+ghost use Rattle.try_place.specs.Try.{placedOf};
+ghost use Rattle.try_place.specs.Leaning.{Fitting};
 ghost use Rattle.packing_rules.specs.Appended.{appendedOf};
 ghost use Rattle.placing.specs.Leaning.{Replaced, PlacedIn, Reaching};
 use crate::add_new_sections::add_new_sections;
@@ -13,7 +15,8 @@ use bin_section::RectToInsert;
 use sections::remove_section;
 use try_place::PackedLocation;
 use try_place::TryAnswer;
-use try_place::try_place;
+use try_place::chosen_three;
+use try_place::fit;
 
 // Where a rectangle went.
 pub enum Spot {
@@ -27,11 +30,13 @@ pub struct Placed {
     pub count: usize,
 }
 
-// The section at i is removed, later ones move down one, and the new ones are appended. Answers the new count.
-fn replace(words: &mut [u32], count: usize, i: usize, three: [BinSection; 3]) -> usize
-    requires { ⌜ (count * 6 + 12 ≤ length (now words)) × (i < count) × SmallBoxes three ⌝ }
-    ensures { λ n. ⌜ Replaced count i (appendedOf three) n (now (words .entry)) (now (words .exit)) ⌝ }
+// The section at i fits: it is removed, later ones move down one, and the chosen three are appended. Answers the new count.
+fn replace(words: &mut [u32], count: usize, i: usize, incoming: RectToInsert) -> usize
+    requires { ⌜ (count * 6 + 12 ≤ length (now words)) × (i < count) × Fitting (sectionAt (now words) i) incoming ⌝ }
+    ensures { λ n. ⌜ Replaced count i (appendedOf (placedOf (sectionAt (now (words .entry)) i) incoming .sections)) n (now (words .entry)) (now (words .exit)) ⌝ }
 {
+    let section = BinSection::read(words, i);
+    let three = chosen_three(section, incoming);
     remove_section(words, count, i);
     add_new_sections(words, count - 1, three)
 }
@@ -45,13 +50,11 @@ pub fn place_rect(words: &mut [u32], count: usize, incoming: RectToInsert) -> Pl
     while 0 < i {
         i -= 1;
         let section = BinSection::read(words, i);
-        let tried = try_place(section, incoming);
-        let answer = tried.answer;
+        let answer = fit(section, incoming);
         let TryAnswer::Placed(location) = answer else {
             continue;
         };
-        let three = tried.sections;
-        let left = replace(words, count, i, three);
+        let left = replace(words, count, i, incoming);
         return Placed {
             spot: Spot::At(location),
             count: left,

@@ -1,16 +1,14 @@
--- Tests on the sections of a list: outside the chamber, a cell shared with a box or with an earlier section, small sides.
-use Prim.Native.Nat.{ℕ, _<_}
+-- Tests on the sections of a list: outside the chamber, a cell shared with a box or with an earlier section.
+use Prim.Native.Nat.{ℕ}
 use mathlib.Core.List.{List}
 use mathlib.Core.Bool.{Bool}
 use Rattle.lists.specs.Lowest.{anyBelow}
 use Rattle.bin_section.specs.declared.section.BinSection.{BinSection}
 use Rattle.bin_section.specs.declared.width_height_depth.WidthHeightDepth.{WidthHeightDepth}
-use Rattle.bin_section.specs.Sides.{Small}
 use Rattle.bin_section.specs.Section.{sectionAt}
 use Rattle.bin_section.specs.Boxes.{boxAt}
 use Rattle.bin_section.specs.Overlap.{overlapsOf}
 use Rattle.bin_section.specs.Inside.{outside}
-unfoldable pub use Rattle.bin_section.specs.Inside.{insideOf}
 
 -- "has a zero side or reaches past the chamber", of the section at an index
 abbrev pub outsideAt : WidthHeightDepth → List ℕ → ℕ → Bool
@@ -23,7 +21,3 @@ sharesAt box w i = overlapsOf (sectionAt w i) box
 -- "a box shares a cell with an earlier one", of the box at an index of a list
 unfoldable pub sharesEarlier : List BinSection → ℕ → Bool
 sharesEarlier boxes j = anyBelow j (λ i. overlapsOf (boxAt boxes i) (boxAt boxes j))
-
--- no side of the first n sections is above 65,535
-pub record AllSmall (n : ℕ) (w : List ℕ) : Type 0 where
-  pub at : (i : ℕ) → i < n → Small (sectionAt w i .whd)

@@ -5,6 +5,7 @@ use mathlib.Core.List.{List, [], _∷_, _++_}
 use lib.ListN.{length, replicate}
 use Rattle.lists.specs.Tab.{removeAt, put}
 use Rattle.bin_section.specs.declared.section.BinSection.{BinSection}
+use Rattle.bin_section.specs.Sides.{Small}
 use Rattle.bin_section.specs.Section.{sectionAt, sectionWords, zeroSection}
 use Rattle.sections.specs.Sections.{sections, allWords}
 
@@ -29,3 +30,7 @@ pub record Cleared (count : ℕ) (w w′ : List ℕ) : Type 0 where
   pub free : sections w′ count ≡ sections w count
   pub words : w′ ≡ allWords (sections w count) ++ replicate (length w - count * 6) 0
   pub zeros : ZeroPast count w′
+
+-- no side of the first n sections is above 65,535
+pub record AllSmall (n : ℕ) (w : List ℕ) : Type 0 where
+  pub at : (i : ℕ) → i < n → Small (sectionAt w i .whd)

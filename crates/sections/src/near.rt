@@ -1,16 +1,13 @@
-// The first section of a list that shares a cell with a box. Among many it goes four at a time: most lie apart along the first axis, and
-// one test there passes over four.
+// The first section of a list that shares a cell with a box. It goes four at a time: most lie apart along the first axis, and one test there
+// passes over four.
 ghost use mathlib.Core.Path.{_≡_};
 ghost use mathlib.Core.Bool.{true, false};
-ghost use Prim.Native.Nat.{_+_, _*_, _≤_, min};
+ghost use Prim.Native.Nat.{_+_, _*_, _≤_};
 ghost use lib.ListN.{length};
 ghost use Rattle.lists.specs.Lowest.{lowest, anyBelow};
 ghost use Rattle.bin_section.specs.Overlap.{spansMeet};
 ghost use Rattle.sections.specs.Inside.{sharesAt};
 use bin_section::BinSection;
-
-// Up to so many, as one chamber has, each section is looked at: passing over pays among hundreds.
-const FEW: usize = 128;
 
 // The highest bit: 2 to the 63.
 const NEAR: u64 = 9223372036854775808;
@@ -64,54 +61,34 @@ fn pass_over(words: &[u32], i: usize, n: usize, other: BinSection) -> usize
     j
 }
 
-// The first section from index i on that shares a cell with the box, each looked at; n where none does. None before i does.
-fn first_from(words: &[u32], i: usize, n: usize, other: BinSection) -> usize
-    requires { ⌜ (n * 6 ≤ length (now words)) × (i ≤ lowest n (sharesAt other (now words))) ⌝ }
-    ensures { λ r. ⌜ r ≡ lowest n (sharesAt other (now (words .entry))) ⌝ }
+// The first of the m sections from index i on that shares a cell with the box, each looked at; i + m where none does. None before i does.
+fn first_from(words: &[u32], i: usize, m: usize, other: BinSection) -> usize
+    requires { ⌜ ((i + m) * 6 ≤ length (now words)) × (i ≤ lowest (i + m) (sharesAt other (now words))) ⌝ }
+    ensures { λ r. ⌜ r ≡ lowest (i + m) (sharesAt other (now (words .entry))) ⌝ }
 {
-    let mut k = i;
-    while k < n {
-        if BinSection::read(words, k).overlaps(other) {
-            return k;
+    let mut k = 0;
+    while k < m {
+        if BinSection::read(words, i + k).overlaps(other) {
+            return i + k;
         }
         k += 1;
     }
-    n
+    i + m
 }
 
-// Where the four sections from index i on end, or the n if there are fewer.
-fn end_of_four(i: usize, n: usize) -> usize
-    requires { ⌜ i ≤ n ⌝ }
-    ensures { λ r. ⌜ r ≡ min (i + 4) n ⌝ }
-{
-    if n - i < 4 { n } else { i + 4 }
-}
-
-// The same among many: of four that are not passed over each is looked at.
-fn first_of_many(words: &[u32], n: usize, other: BinSection) -> usize
-    requires { ⌜ n * 6 ≤ length (now words) ⌝ }
-    ensures { λ r. ⌜ r ≡ lowest n (sharesAt other (now (words .entry))) ⌝ }
-{
-    let mut i = 0;
-    while i < n {
-        let at = pass_over(words, i, n, other);
-        let end = end_of_four(at, n);
-        let found = first_from(words, at, end, other);
-        if found < end {
-            return found;
-        }
-        i = end;
-    }
-    n
-}
-
-// The first of the n sections that shares a cell with the box; n where none does.
+// The first of the n sections that shares a cell with the box; n where none does. Of four that are not passed over each is looked at, and
+// so is each of the last three at most.
 pub fn first_sharing(words: &[u32], n: usize, other: BinSection) -> usize
     requires { ⌜ n * 6 ≤ length (now words) ⌝ }
     ensures { λ r. ⌜ r ≡ lowest n (sharesAt other (now (words .entry))) ⌝ }
 {
-    if n <= FEW {
-        return first_from(words, 0, n, other);
+    let mut i = pass_over(words, 0, n, other);
+    while i + 4 <= n {
+        let found = first_from(words, i, 4, other);
+        if found < i + 4 {
+            return found;
+        }
+        i = pass_over(words, i + 4, n, other);
     }
-    first_of_many(words, n, other)
+    first_from(words, i, n - i, other)
 }

@@ -4,7 +4,7 @@ ghost use Prim.Native.Nat.{_*_, _≤_};
 ghost use lib.ListN.{length};
 ghost use Rattle.bin_section.specs.Boxes.{volumes};
 ghost use Rattle.sections.specs.Sections.{sections};
-ghost use Rattle.sections.specs.Inside.{AllSmall};
+ghost use Rattle.sections.specs.Leaning.{AllSmall};
 use bin_section::BinSection;
 
 // The sum of the volumes of the first n sections. That of 1,024 fits 64 bits.

@@ -22,8 +22,8 @@ use Rattle.bin_section.specs.Cell.{SharesCell}
 use Rattle.bin_section.proofs.Sharing.{shares→overlaps, overlaps→shares}
 use Rattle.replies.specs.Replies.{Check, reply, once, each, inOrder}
 use Rattle.sections.specs.Sections.{sections}
-use Rattle.sections.specs.Inside.{insideOf, sharesAt}
-use Rattle.bin_section.specs.Inside.{Inside}
+use Rattle.sections.specs.Inside.{sharesAt}
+use Rattle.bin_section.specs.Inside.{Inside, insideOf}
 use Rattle.bin_section.proofs.Bounding.{inside→, →inside}
 use Rattle.lists.proofs.Lowests.{any-lowest}
 use Rattle.sections.proofs.Moves.{appended}

@@ -36,12 +36,6 @@ refusal-numbered PlacementTallerThanBinSection o e = omega arith
 refusal-numbered PlacementDeeperThanBinSection o e = omega arith
 
 module _ (s : BinSection) (r : RectToInsert) where
-  pub refused-fit : (x : TryAnswer) → x ≡ fitOf s r .answer → Refusal x → refusedOf x ≡ fitOf s r
-  unfolding fitOf
-  refused-fit x e o =
-      alone-fires numberOf (λ a. refusedOf a) (placedOf s r) (fitChecks s r) _ x refl
-      (e ∙ in-map (λ a. refusedOf a) (placedOf s r) (λ t. t .answer) (fitChecks s r)) (refusal-numbered x o)
-
   pub refused-try : (x : TryAnswer) → x ≡ tryOf s r .answer → Refusal x → refusedOf x ≡ tryOf s r
   unfolding tryOf
   refused-try x e o =

@@ -53,6 +53,10 @@ row-long s r (suc (suc (suc (suc zero)))) h = refl
 row-long s r (suc (suc (suc (suc (suc zero))))) h = refl
 row-long s r (suc (suc (suc (suc (suc (suc k)))))) h = absurd (omega arith)
 
+-- the chosen three of a section that fits are small
+pub chosen-small : (s : BinSection) (r : RectToInsert) → Fitting s r → SmallBoxes (placedOf s r .sections)
+chosen-small s r f = let w = row-within s r (chosen (sixSplits s r)) f (chosen-below (sixSplits s r)) in omega arith
+
 pub within-reachable : (s b : BinSection) → Reachable s → Within s b → Reachable b
 within-reachable s b p w = omega arith
 
@@ -82,6 +86,3 @@ module _ (s : BinSection) (r : RectToInsert) (l : PackedLocation) (p : Reachable
 
   pub placed-three : length (fitOf s r .sections) ≡ 3
   placed-three = rw (ap (λ (t : Tried). t .sections) placed-is) (row-long s r (chosen (sixSplits s r)) (chosen-below (sixSplits s r)))
-
-  pub placed-small : SmallBoxes (fitOf s r .sections)
-  placed-small = let w = placed-within in omega arith

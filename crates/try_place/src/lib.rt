@@ -1,6 +1,6 @@
 // Try one placement: a rectangle in the corner of a section, and what remains.
 ghost use mathlib.Core.Path.{_≡_};
-ghost use Rattle.try_place.specs.Leaning.{Fitting, Reachable};
+ghost use Rattle.try_place.specs.Leaning.{Fitting};
 ghost use Rattle.try_place.specs.Try.{spanOk, sectionOk, refusedOf, placedOf, fitOf, tryOf, numberOf, locationOf};
 ghost use Rattle.replies.specs.Replies.{reply};
 
@@ -84,7 +84,7 @@ fn refused(answer: TryAnswer) -> Tried
 }
 
 // Where the rectangle goes in the section, or why it does not fit: the Rust's incoming_can_fit.
-fn fit(section: BinSection, incoming: RectToInsert) -> TryAnswer
+pub fn fit(section: BinSection, incoming: RectToInsert) -> TryAnswer
     ensures { λ a. ⌜ a ≡ fitOf section incoming .answer ⌝ }
 {
     if section.whd.width < incoming.whd.width {
@@ -105,27 +105,14 @@ fn fit(section: BinSection, incoming: RectToInsert) -> TryAnswer
     })
 }
 
-// The chosen three. Both tries call it, so that it stays a function of its own in the compiled code, and a refusal costs the tests alone.
-fn chosen_three(section: BinSection, incoming: RectToInsert) -> [BinSection; 3]
+// The chosen three, of a section that fits. It stands apart from the tests, so that a refusal costs the tests alone.
+pub fn chosen_three(section: BinSection, incoming: RectToInsert) -> [BinSection; 3]
     requires { ⌜ Fitting section incoming ⌝ }
     ensures { λ t. ⌜ t ≡ placedOf section incoming .sections ⌝ }
 {
     let splits = six_splits(section, incoming);
     let k = choose(splits);
     splits[k]
-}
-
-// The Rust's try_place, for a section that reaches 65,535 at most.
-pub fn try_place(section: BinSection, incoming: RectToInsert) -> Tried
-    requires { ⌜ Reachable section ⌝ }
-    ensures { λ t. ⌜ t ≡ fitOf section incoming ⌝ }
-{
-    let answer = fit(section, incoming);
-    let TryAnswer::Placed(_) = answer else {
-        return refused(answer);
-    };
-    let sections = chosen_three(section, incoming);
-    Tried { answer, sections }
 }
 
 fn in_range(s: BinSection) -> bool
@@ -154,7 +141,7 @@ fn answer_to(section: BinSection, rectangle: RectToInsert) -> TryAnswer
     fit(section, rectangle)
 }
 
-// Try one placement, for any section and any rectangle.
+// Try one placement, for any section and any rectangle: the Rust's try_place.
 pub fn try_placement(section: BinSection, rectangle: RectToInsert) -> Tried
     ensures { λ t. ⌜ t ≡ tryOf section rectangle ⌝ }
 {
