@@ -15,10 +15,11 @@ use Rattle.bin_section.specs.declared.section.BinSection.{BinSection}
 use Rattle.replies.specs.declared.reply.Reply.{Reply}
 use Rattle.bin_section.specs.Sides.{volumeOf, sidesOk}
 use Rattle.replies.specs.Replies.{reply, inOrder}
+use Rattle.replies.proofs.Ladders.{fires, passes, past, past-all}
 use Rattle.bin_section.specs.Inside.{outside}
 use Rattle.cells.specs.Whole.{boxAt, volumes}
 use Rattle.sections.specs.Inside.{sharesEarlier}
-use Rattle.audit.specs.Audit.{auditBoxes, boxListsOk, auditReply, shownOf, Audited, audited, auditOf}
+use Rattle.audit.specs.Audit.{auditBoxes, boxListsOk, auditChecks, auditReply, shownOf, Audited, audited, auditOf}
 use Rattle.audit.proofs.TwoLists.{boxes-length}
 
 -- what lengths that pass check 1 have
@@ -51,33 +52,28 @@ module _ (whd : WidthHeightDepth) (placed free : List ℕ) where
   abbrev boxes : List BinSection
   boxes = auditBoxes placed free
 
-  pub reply-length : boxListsOk (length placed) (length free) ≡ false → reply 1 0 ≡ auditReply whd placed free
-  unfolding auditReply inOrder
-  reply-length a = rw a
+  module _ (a : boxListsOk (length placed) (length free) ≡ true) (b : sidesOk whd ≡ true) where
+    -- past the first two checks
+    outside-on : auditReply whd placed free ≡ inOrder (drop 2 (auditChecks whd placed free boxes)) (λ refusal. refusal) (reply 0 0)
+    unfolding auditReply
+    outside-on = past _ _ (take 2 (auditChecks whd placed free boxes)) _ (ap not a, (ap not b, tt))
 
-  module _ (a : boxListsOk (length placed) (length free) ≡ true) where
-    pub reply-chamber : sidesOk whd ≡ false → reply 2 0 ≡ auditReply whd placed free
-    unfolding auditReply inOrder
-    reply-chamber b = rw (a, b)
+    pub reply-outside : firstOutside whd boxes < length boxes → reply 16 (firstOutside whd boxes) ≡ auditReply whd placed free
+    reply-outside h = sym (outside-on ∙ fires _ _ _ _ (lt-ltb _ _ h))
 
-    module _ (b : sidesOk whd ≡ true) where
-      pub reply-outside : firstOutside whd boxes < length boxes → reply 16 (firstOutside whd boxes) ≡ auditReply whd placed free
-      unfolding auditReply inOrder
-      reply-outside h = rw (a, b, lt-ltb _ _ h)
+    module _ (inside : length boxes ≤ firstOutside whd boxes) where
+      shared-on : auditReply whd placed free ≡ inOrder (drop 3 (auditChecks whd placed free boxes)) (λ refusal. refusal) (reply 0 0)
+      shared-on = outside-on ∙ passes _ _ _ _ (le-ltb _ _ inside)
 
-      module _ (inside : length boxes ≤ firstOutside whd boxes) where
-        pub reply-shared : firstShared boxes < length boxes → reply 17 (firstShared boxes) ≡ auditReply whd placed free
-        unfolding auditReply inOrder
-        reply-shared h = rw (a, b, le-ltb _ _ inside, lt-ltb _ _ h)
+      pub reply-shared : firstShared boxes < length boxes → reply 17 (firstShared boxes) ≡ auditReply whd placed free
+      reply-shared h = sym (shared-on ∙ fires _ _ _ _ (lt-ltb _ _ h))
 
-        module _ (apart : length boxes ≤ firstShared boxes) where
-          pub reply-gap : eqb (volumes boxes) (volumeOf whd) ≡ false → reply 18 0 ≡ auditReply whd placed free
-          unfolding auditReply inOrder
-          reply-gap e = rw (a, b, le-ltb _ _ inside, le-ltb _ _ apart, e)
+      module _ (apart : length boxes ≤ firstShared boxes) where
+        pub reply-gap : eqb (volumes boxes) (volumeOf whd) ≡ false → reply 18 0 ≡ auditReply whd placed free
+        reply-gap e = sym (shared-on ∙ passes _ _ _ _ (le-ltb _ _ apart) ∙ fires _ _ _ _ (ap not e))
 
-          pub reply-whole : eqb (volumes boxes) (volumeOf whd) ≡ true → reply 0 0 ≡ auditReply whd placed free
-          unfolding auditReply inOrder
-          reply-whole e = rw (a, b, le-ltb _ _ inside, le-ltb _ _ apart, e)
+        pub reply-whole : eqb (volumes boxes) (volumeOf whd) ≡ true → reply 0 0 ≡ auditReply whd placed free
+        reply-whole e = sym (shared-on ∙ past-all _ _ _ (le-ltb _ _ apart, (ap not e, tt)))
 
 -- ---- a reply that names a box
 

@@ -21,6 +21,13 @@ pub fn boxes_in(words: &[u32]) -> usize
     words.len() / BinSection::WORDS
 }
 
+// How many boxes the two lists have together.
+pub fn boxes_in_both(placed: &[u32], free: &[u32]) -> usize
+    ensures { λ r. ⌜ length (auditBoxes (now (placed .entry)) (now (free .entry))) ≡ r ⌝ }
+{
+    boxes_in(placed) + boxes_in(free)
+}
+
 // The lowest box that has a zero side or reaches past the chamber; the number of boxes where none does.
 pub fn first_outside(whd: WidthHeightDepth, placed: &[u32], free: &[u32]) -> usize
     ensures { λ r. ⌜ r ≡ lowest (length (auditBoxes (now (placed .entry)) (now (free .entry)))) (λ i. outside whd (boxAt (auditBoxes (now (placed .entry)) (now (free .entry))) i)) ⌝ }

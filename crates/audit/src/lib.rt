@@ -13,6 +13,7 @@ mod checks;
 use bin_section::BinSection;
 use bin_section::WidthHeightDepth;
 use checks::boxes_in;
+use checks::boxes_in_both;
 use checks::fills;
 use checks::first_outside;
 use checks::first_shared;
@@ -44,7 +45,7 @@ pub fn audit_reply(whd: WidthHeightDepth, placed: &[u32], free: &[u32]) -> Reply
     if !whd.in_range() {
         return Reply::new(Reply::BAD_CHAMBER, 0);
     }
-    let n = boxes_in(placed) + boxes_in(free);
+    let n = boxes_in_both(placed, free);
     let out = first_outside(whd, placed, free);
     if out < n {
         return Reply::new(Reply::OUTSIDE, out as u32);
