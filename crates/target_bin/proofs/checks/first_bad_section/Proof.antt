@@ -1,29 +1,21 @@
-use Rattle.lists.proofs.Kit.{_≤_, _-_, _≡_, sym, _∙_, needs}
-use Rattle.lists.proofs.Lowests.{None, none-zero, none-more, lowest-here, lowest-end}
+use Rattle.lists.proofs.Kit.{_≤_, _-_, _≡_, _∙_, needs}
+use Rattle.lists.specs.Lowest.{lowest}
+use Rattle.lists.proofs.Lowests.{lowest-at, lowest-next, lowest-over}
 use Rattle.target_bin.specs.Chambers.{chamberCount}
 use Rattle.target_bin.specs.Checks.{badSections}
 use Rattle.target_bin.proofs.checks.first_bad_section as it
 
 abbrev Inv-loop : it.Tie.InvT-loop
-Inv-loop chambers store n i₀ i = (n ≡ chamberCount chambers) × ((i ≤ n) × None i (badSections chambers store))
+Inv-loop chambers store n i₀ i = (n ≡ chamberCount chambers) × (i ≤ lowest (chamberCount chambers) (badSections chambers store))
 
 abbrev μ-loop : it.Tie.MeasureT-loop
 μ-loop chambers store n i₀ i = n - i
 
-returns : it.Tie.Need-returns Inv-loop μ-loop
-returns c =
-    let h = c .before .before .before in
-    sym (lowest-here _ _ _ (h .loop .inv .1 .1) (search needs) (sym (c .before .bad-sections .ensures) ∙ c .if1 .taken))
-
-loop-again : it.Tie.Need-loop-again Inv-loop μ-loop
-loop-again c =
-    let h = c .before .before .before in
-    (search needs, (search needs, none-more _ _ (h .loop .inv .1 .1) (sym (c .before .bad-sections .ensures) ∙ c .if1 .left)))
-
 pub first-bad-section-spec : {M : Type 1} → it.Statement.statement M
 first-bad-section-spec =
     it.Tie.close
-    (it.Tie.spec Inv-loop μ-loop (λ c. (search needs, (search needs, none-zero _)))
-    (λ c κs. (search needs, search needs, c .before .before .before .before .pre .1 .counts _ (search needs))) returns
-    (λ c. search needs) (λ c. search needs) loop-again
-    (λ c. let h = c .before .loop .inv in h .0 ∙ sym (lowest-end _ _ _ (h .1 .1) (search needs))))
+    (it.Tie.spec Inv-loop μ-loop (λ c. search needs)
+    (λ c κs. (search needs, search needs, c .before .before .before .before .pre .1 .counts _ (search needs)))
+    (λ c. lowest-at _ _ _ (search needs) (search needs) (cc)) (λ c. search needs) (λ c. search needs)
+    (λ c. (search needs, lowest-next _ _ _ (search needs) (search needs) (cc)))
+    (λ c. let l = c .before .loop in l .inv .0 ∙ lowest-over _ _ _ (l .inv .1) (search needs)))
