@@ -1,12 +1,12 @@
 -- Where the part of a box lies: in the placed list, or past its boxes in the free list.
 use Prim.Native.Nat.{ℕ, _+_, _*_, _-_, _≤_, _<_}
 use mathlib.Core.Path.{_≡_}
-use mathlib.Core.Logic.{_⊎_, inl, inr}
+use mathlib.Core.Logic.{inl, inr}
 use mathlib.Core.Bool.{false}
 use native.Mathlib.Omega.{arith}
 use Rattle.lists.proofs.Flags.{true-false}
 use Rattle.replies.specs.declared.reply.Reply.{Reply}
-use Rattle.audit.specs.Place.{StartsAt, LiesAt, ShownAt}
+use Rattle.audit.specs.Place.{LiesAt, ShownAt}
 use Rattle.audit.proofs.Replying.{namesBox}
 
 module _ (n : ℕ) (placed free : ℕ × ℕ) where

@@ -19,7 +19,7 @@ use Rattle.replies.proofs.Ladders.{fires, passes, past, past-all}
 use Rattle.bin_section.specs.Inside.{outside}
 use Rattle.cells.specs.Whole.{boxAt, volumes}
 use Rattle.sections.specs.Inside.{sharesEarlier}
-use Rattle.audit.specs.Audit.{auditBoxes, boxListsOk, auditChecks, auditReply, shownOf, Audited, audited, auditOf}
+use Rattle.audit.specs.Audit.{auditBoxes, boxListsOk, auditChecks, auditReply, shownOf, audited, auditOf}
 use Rattle.audit.proofs.TwoLists.{boxes-length}
 
 -- what lengths that pass check 1 have

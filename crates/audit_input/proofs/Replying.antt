@@ -1,6 +1,6 @@
 -- Which reply an input gets, and that an input longer than the longest may be cut.
 use Prim.Native.Nat.{ℕ, _+_, _*_, _-_, _/_, _%_, _<_}
-use mathlib.Core.Path.{_≡_, refl, sym, ap, _∙_}
+use mathlib.Core.Path.{_≡_, refl, sym, ap}
 use mathlib.Core.Logic.{_⊎_, inl, inr}
 use mathlib.Core.List.{List}
 use mathlib.Core.Bool.{true, false, _&&_}

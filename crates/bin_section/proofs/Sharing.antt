@@ -1,6 +1,6 @@
 -- The overlap test fires exactly when a unit cell lies in both boxes, whatever their sides, and it is the same either way round.
-use Prim.Native.Nat.{ℕ, _+_, _≤_, _<_, min, max}
-use mathlib.Core.Path.{_≡_, refl, sym, ap, ap₂, _∙_}
+use Prim.Native.Nat.{ℕ, _+_, min, max}
+use mathlib.Core.Path.{_≡_, ap₂}
 use mathlib.Core.Logic.{_↔_}
 use mathlib.Core.Bool.{Bool, true, false, not, _&&_}
 use native.Mathlib.Omega.{arith}
@@ -8,7 +8,7 @@ use borrow.Author.Tests.{ltb-true, lt-ltb, not-true, not-false}
 use lib.Dec.{ltb}
 use Rattle.lists.proofs.Flags.{and-both, and-first, and-second}
 use Rattle.bin_section.specs.declared.section.BinSection.{BinSection}
-use Rattle.bin_section.specs.Cell.{Within, HasCell, SharesCell}
+use Rattle.bin_section.specs.Cell.{Within, SharesCell}
 use Rattle.bin_section.specs.Overlap.{spansMeet, overlapsOf}
 
 -- along one axis: the later start lies in both spans

@@ -7,7 +7,7 @@ use native.Mathlib.Omega.{arith}
 use borrow.Author.Tests.{eqb-true}
 use lib.Dec.{eqb}
 use lib.ListN.{getD}
-use Rattle.lists.specs.Sort.{sortBy, Permuted, empty, keep, swap, chain}
+use Rattle.lists.specs.Sort.{sortBy}
 use Rattle.lists.proofs.Sorts.{sort-permuted}
 use Rattle.bin_section.specs.declared.rect_to_insert.RectToInsert.{RectToInsert}
 use Rattle.bin_section.specs.declared.section.BinSection.{BinSection}

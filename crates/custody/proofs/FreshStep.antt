@@ -5,22 +5,21 @@ use mathlib.Core.List.{List, [], _∷_}
 use native.Mathlib.Omega.{arith}
 use borrow.Author.Tests.{not-false}
 use lib.ListN.{getD, List·getD-map}
-use Rattle.lists.specs.Sort.{none}
 use Rattle.replies.specs.declared.reply.Reply.{Reply}
 use Rattle.bin_section.specs.declared.section.BinSection.{BinSection}
 use Rattle.bin_section.specs.declared.width_height_depth.WidthHeightDepth.{WidthHeightDepth}
 use Rattle.bin_section.specs.Sides.{sides}
 use Rattle.bin_section.specs.Section.{wholeSection}
-use Rattle.replies.specs.Replies.{Check, reply, once, inOrder}
+use Rattle.replies.specs.Replies.{Check, reply, once}
 use Rattle.cells.specs.Whole.{Inside, Whole}
 use Rattle.cells.proofs.Grid.{has-le, has-in}
 use Rattle.lists.proofs.Totals.{total}
-use Rattle.cells.proofs.Held.{held, whole-held}
+use Rattle.cells.proofs.Held.{whole-held}
 use Rattle.cells.proofs.Insides.{inside-more, inside-none}
 use Rattle.target_bin.specs.declared.chamber.TargetBin.{TargetBin}
 use Rattle.target_bin.specs.Chambers.{bin, chamberAt, chamberCount, chambersOf}
 use Rattle.target_bin.specs.Store.{freeAt}
-use Rattle.target_bin.specs.Checks.{badShape, check1, check2Fresh}
+use Rattle.target_bin.specs.Checks.{check1, check2Fresh}
 use Rattle.target_bin.specs.Outcome.{Outcome, outcome, refused}
 use Rattle.target_bin.specs.Fresh.{freshTable, freshStore, freshOf}
 use Rattle.replies.proofs.Ladders.{AllPass, row-passes, past-all, no-fault}

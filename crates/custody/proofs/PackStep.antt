@@ -4,13 +4,13 @@ use Prim.Native.Nat.{ℕ, _+_, _*_, _≤_, _<_}
 use mathlib.Core.Path.{_≡_, refl, sym, ap, _∙_, subst}
 use mathlib.Core.Logic.{_⊎_, inl, inr}
 use mathlib.Core.List.{List, [], _++_}
-use mathlib.Core.Bool.{Bool, true, false, _&&_, not, cond}
+use mathlib.Core.Bool.{true, false, _&&_}
 use native.Mathlib.Decide.{ℕ-discrete}
 use native.Mathlib.Omega.{arith}
 use borrow.Author.Tests.{ltb-true, ne-eqb, not-false, le-ltb}
 use lib.Dec.{ltb, leb, eqb}
 use lib.ListN.{length, getD, replicate, getD-replicate}
-use Rattle.lists.specs.Sort.{Each, none, also}
+use Rattle.lists.specs.Sort.{Each}
 use Rattle.lists.proofs.Flags.{cond-yes, cond-no, and-first, and-second, or-none}
 use Rattle.lists.proofs.Lowests.{None}
 use Rattle.lists.proofs.Sorts.{each-map, sort-each, each-tab}
@@ -18,7 +18,7 @@ use Rattle.replies.specs.declared.reply.Reply.{Reply}
 use Rattle.bin_section.specs.declared.section.BinSection.{BinSection}
 use Rattle.bin_section.specs.declared.width_height_depth.WidthHeightDepth.{WidthHeightDepth}
 use Rattle.bin_section.specs.Sides.{sideOk, sidesOk, Small}
-use Rattle.replies.specs.Replies.{Check, reply, once, each, inOrder}
+use Rattle.replies.specs.Replies.{reply, inOrder}
 use Rattle.cells.specs.Whole.{Whole}
 use Rattle.cells.proofs.Grid.{has}
 use Rattle.cells.proofs.Held.{held, whole-same}
@@ -26,19 +26,18 @@ use Rattle.cells.proofs.Insides.{inside-first, inside-second, inside-both}
 use Rattle.target_bin.specs.declared.chamber.TargetBin.{TargetBin}
 use Rattle.target_bin.specs.Chambers.{chamberAt, chamberCount, tableOf}
 use Rattle.target_bin.specs.Store.{freeAt, freeOf, storeOf}
-use Rattle.target_bin.specs.Checks.{check1, check2, check3}
 use Rattle.replies.proofs.Ladders.{AllPass, answer-is}
 use Rattle.bin_section.proofs.Ranges.{SidesInRange}
 use Rattle.target_bin.proofs.Parts.{length-freeOf, getD-freeOf}
 use Rattle.grouped_rects_to_place.specs.declared.rect_to_place.RectToPlace.{RectToPlace}
 use Rattle.grouped_rects_to_place.specs.Rect.{rectAt, rectCount}
-use Rattle.grouped_rects_to_place.specs.Checks.{badRect, repeatedId}
+use Rattle.grouped_rects_to_place.specs.Checks.{badRect}
 use Rattle.grouped_rects_to_place.specs.Groups.{groupsOf}
 use Rattle.packing_rules.specs.Order.{triedBefore, trialOrder}
 use Rattle.packing_rules.specs.Seats.{Seat, unplaced}
 use Rattle.rectangle_pack.specs.Records.{placementsOf}
 use Rattle.packing_rules.specs.Packing.{state, Ended, noRoom, start, packing}
-use Rattle.rectangle_pack.specs.Pack.{rectLengthsOk, rectChecks, packChecks, binsWith, PackOutcome, packOutcome, written, packOf}
+use Rattle.rectangle_pack.specs.Pack.{rectChecks, packChecks, binsWith, PackOutcome, packOutcome, written, packOf}
 use Rattle.rectangle_pack.proofs.Checked.{no-bad, passed}
 use Rattle.rectangle_pack.proofs.Ending.{pack-refused, all-pass, pack-done}
 use Rattle.packing_rules.proofs.Room.{never-overflows}

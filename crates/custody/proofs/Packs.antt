@@ -31,7 +31,7 @@ use Rattle.packing_rules.proofs.Placings.{group-placings}
 use Rattle.packing_rules.proofs.Placings.{group-long}
 use Rattle.packing_rules.proofs.Seats.{length-seated}
 use Rattle.custody.proofs.Placements.{Sided, boxesAt, Kept, group-kept}
-use Rattle.lists.proofs.Totals.{total, total-append}
+use Rattle.lists.proofs.Totals.{total}
 use Rattle.custody.proofs.Totals.{held-total, strays, none-strays}
 use Rattle.custody.proofs.Seating.{seatWeight, seatTotal, no-weight, Waiting, Distinct, Disjoint, seated-here, seated-elsewhere, seated-others}
 

@@ -17,7 +17,7 @@ use Rattle.bin_section.specs.Sides.{sides}
 use Rattle.replies.specs.Replies.{reply}
 use Rattle.cells.specs.Whole.{Inside, Whole}
 use Rattle.cells.proofs.Grid.{has}
-use Rattle.cells.proofs.Held.{held, whole-same}
+use Rattle.cells.proofs.Held.{whole-same}
 use Rattle.cells.proofs.Insides.{inside-first, inside-second, inside-both, inside-more, inside-none}
 use Rattle.target_bin.specs.declared.chamber.TargetBin.{TargetBin}
 use Rattle.target_bin.specs.Chambers.{bin, chamberAt, chamberCount, chambersOf, chamberOf}

@@ -1,6 +1,6 @@
 -- Tables written anew from lists of free sections: what stands in them, and that they are sound.
 use Prim.Native.Nat.{ℕ, suc, _*_, _≤_, _<_}
-use mathlib.Core.Path.{_≡_, refl, sym, ap, _∙_}
+use mathlib.Core.Path.{_≡_, sym, ap, _∙_}
 use mathlib.Core.List.{List, []}
 use native.Mathlib.Omega.{arith}
 use lib.ListN.{length, getD}
@@ -16,7 +16,7 @@ use Rattle.cells.specs.Whole.{Inside}
 use Rattle.words.proofs.Records.{length-joined-tab}
 use Rattle.sections.proofs.Reading.{getD-sections}
 use Rattle.target_bin.specs.declared.chamber.TargetBin.{TargetBin}
-use Rattle.target_bin.specs.Chambers.{bin, binWords, chamberAt, chamberCount, tableOf}
+use Rattle.target_bin.specs.Chambers.{bin, chamberAt, chamberCount, tableOf}
 use Rattle.target_bin.specs.Store.{partAt, freeAt, partOf, storeOf}
 use Rattle.target_bin.specs.Leaning.{Counted}
 use Rattle.target_bin.proofs.Tables.{count-tableOf, chamberAt-tableOf, length-tableOf}

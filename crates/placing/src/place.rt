@@ -1,8 +1,6 @@
 // The free sections tried from the last to the first.
-ghost use mathlib.Core.Path.{_≡_};
 ghost use Prim.Native.Nat.{_+_, _*_, _≤_, _<_};
 ghost use lib.ListN.{length};
-ghost use Rattle.lists.specs.Tab.{removeAt};
 ghost use Rattle.sections.specs.Sections.{sections};
 ghost use Rattle.bin_section.specs.Section.{sectionAt};
 ghost use Rattle.try_place.specs.Try.{placedOf};

@@ -1,5 +1,5 @@
 -- Laws of the tables that a reading fills from the front: one entry more, a slip, and what stands past the entries.
-use Prim.Native.Nat.{ℕ, suc, _+_, _*_, _-_, _≤_, _<_}
+use Prim.Native.Nat.{ℕ, _+_, _*_, _-_, _≤_, _<_}
 use mathlib.Core.Path.{_≡_, refl, sym, ap, ap₂, _∙_}
 use mathlib.Core.List.{List, [], _∷_, _++_}
 use native.Mathlib.Nat.{suc-mul, mul-le-mul-right}
@@ -16,7 +16,7 @@ use Rattle.grouped_rects_to_place.specs.Rect.{rectWidth, rectWords}
 use Rattle.plan_list.specs.declared.line_said.LineSaid.{LineSaid}
 use Rattle.plan_list.specs.declared.line_said.LineSaid.the-variants.{Nothing, Chamber, Coil, Slipped}
 use Rattle.plan_list.specs.declared.list.ListRead.{ListRead}
-use Rattle.plan_list.specs.List.{Entries, entries, withEntry, Reading, reading, added}
+use Rattle.plan_list.specs.List.{Entries, entries, withEntry, reading, added}
 use Rattle.plan_list.specs.Table.{front, rest, Tables, readingOf, Past, Few, Sized}
 use Rattle.plan_list.specs.Leaning.{slippedRead, oneChamber, oneCoil, Entered, Step}
 

@@ -1,5 +1,4 @@
 // The list's text to the report's text.
-ghost use mathlib.Core.Path.{_≡_};
 ghost use Prim.Native.Nat.{_*_, _≤_};
 ghost use lib.ListN.{length, take};
 ghost use Rattle.text.specs.Written.{Written};

@@ -1,35 +1,28 @@
 -- Laws of pack's checks: which case each of them leads to, and what the tables have once all pass.
 use Prim.Native.Nat.{ℕ, _+_, _*_, _%_, _≤_, _<_}
 use mathlib.Core.Path.{_≡_, refl, sym, ap, _∙_}
-use mathlib.Core.List.{List, [], _∷_, _++_}
-use mathlib.Core.Bool.{Bool, true, false, not, _&&_}
+use mathlib.Core.List.{List}
+use mathlib.Core.Bool.{true, false, not, _&&_}
 use native.Mathlib.Omega.{arith}
 use borrow.Author.Tests.{eqb-true, leb-true, eq-eqb, ne-eqb, le-leb, lt-leb, lt-ltb, le-ltb, ltb-false, not-false}
-use lib.Dec.{eqb, leb, ltb}
+use lib.Dec.{eqb, leb}
 use lib.ListN.{length}
-use Rattle.lists.specs.Lowest.{lowest}
 use Rattle.lists.proofs.Flags.{and-first, and-second, and-no-first, and-no-second}
 use Rattle.lists.proofs.Lowests.{None}
 use Rattle.replies.specs.declared.reply.Reply.{Reply}
-use Rattle.replies.specs.Replies.{Check, reply, once, each, inOrder}
-use Rattle.bin_section.specs.Section.{sectionAt}
-use Rattle.bin_section.specs.Sides.{Small}
-use Rattle.try_place.specs.Leaning.{Reachable}
-use Rattle.placing.specs.Leaning.{Reaching}
+use Rattle.replies.specs.Replies.{reply, inOrder}
 use Rattle.target_bin.specs.declared.chamber.TargetBin.{TargetBin}
 use Rattle.target_bin.specs.Chambers.{chamberAt, chamberCount}
 use Rattle.target_bin.specs.Checks.{tableChecks}
-use Rattle.target_bin.specs.Store.{partAt}
 use Rattle.replies.proofs.Ladders.{AllPass, passes, row-passes, row-fires, past, no-fault}
 use Rattle.target_bin.proofs.Passing.{Sound, tables-sound}
 use Rattle.grouped_rects_to_place.specs.Rect.{rectAt, rectWidth, rectCount}
-use Rattle.grouped_rects_to_place.specs.Leaning.{GoodRects}
 use Rattle.placement.specs.Placements.{placementWidth}
-use Rattle.grouped_rects_to_place.specs.Checks.{badRect, repeatedId}
+use Rattle.grouped_rects_to_place.specs.Checks.{badRect}
 use Rattle.grouped_rects_to_place.proofs.Checking.{good-rects}
 use Rattle.rectangle_pack.specs.Pack.{rectLengthsOk, rectChecks, packChecks}
 use Rattle.packing_rules.specs.Packing.{noRoom}
-use Rattle.rectangle_pack.specs.Leaning.{SmallChambers, Ready, Passed}
+use Rattle.rectangle_pack.specs.Leaning.{Passed}
 
 -- ---- 1
 

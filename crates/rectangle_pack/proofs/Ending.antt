@@ -7,7 +7,6 @@ use Rattle.replies.specs.declared.reply.Reply.{Reply}
 use Rattle.bin_section.specs.declared.section.BinSection.{BinSection}
 use Rattle.replies.specs.Replies.{reply, inOrder}
 use Rattle.target_bin.specs.Chambers.{chamberAt}
-use Rattle.target_bin.specs.Store.{freeOf}
 use Rattle.replies.proofs.Ladders.{AllPass, row-passes, alone-fires, past-all}
 use Rattle.grouped_rects_to_place.specs.Rect.{rectAt, rectCount}
 use Rattle.grouped_rects_to_place.specs.Groups.{groupsOf}

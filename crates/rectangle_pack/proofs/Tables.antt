@@ -1,9 +1,9 @@
 -- Laws of the tables' words: a copy of counted sections, and the placements of seats.
-use Prim.Native.Nat.{ℕ, zero, suc, _+_, _*_, _≤_, _<_}
+use Prim.Native.Nat.{ℕ, zero, suc, _*_, _≤_, _<_}
 use mathlib.Core.Path.{_≡_, refl, sym, ap, _∙_}
-use mathlib.Core.List.{List, [], _∷_, map}
+use mathlib.Core.List.{List, _∷_, map}
 use native.Mathlib.Omega.{arith}
-use lib.ListN.{length, getD, take, set, replicate, length-map, length-take}
+use lib.ListN.{length, take, set, replicate, length-map, length-take}
 use lib.Seq.{take-at}
 use Rattle.lists.specs.Tab.{put}
 use Rattle.lists.proofs.Tabs.{map-set}

@@ -1,6 +1,6 @@
 // "A group is tried in each chamber in turn": each group into the first chamber where all of it fits.
 ghost use mathlib.Core.Path.{_≡_};
-ghost use Prim.Native.Nat.{_≤_, _<_};
+ghost use Prim.Native.Nat.{_<_};
 ghost use lib.ListN.{length, take};
 ghost use Rattle.target_bin.specs.Chambers.{chamberCount};
 ghost use Rattle.target_bin.specs.Store.{freeOf};

@@ -1,6 +1,6 @@
 // The rectangles of a group placed one after the other in one chamber: a trial on a copy, and the commit that does the work again.
 ghost use mathlib.Core.Path.{_≡_};
-ghost use Prim.Native.Nat.{_+_, _*_, _≤_};
+ghost use Prim.Native.Nat.{_*_, _≤_};
 ghost use lib.ListN.{length, take};
 ghost use Rattle.sections.specs.Sections.{sections};
 ghost use Rattle.placing.specs.Leaning.{PlacedIn};

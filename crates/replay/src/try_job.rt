@@ -1,5 +1,4 @@
 // A try: section and rectangle in, reply, detail, location and the three sections out.
-ghost use mathlib.Core.Path.{_≡_};
 ghost use Prim.Native.Nat.{_≤_};
 ghost use lib.ListN.{length};
 use bin_section::BinSection;

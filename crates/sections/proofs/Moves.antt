@@ -7,7 +7,7 @@ use native.Mathlib.Omega.{arith}
 use native.Mathlib.Decide.{decLt, ℕ-discrete}
 use lib.ListN.{length, getD, take, drop, replicate, length-drop, length-replicate, getD-replicate, take-append-drop, drop-of-length-le, List·getD-eq-default}
 use lib.Seq.{getD-drop, ext-getD}
-use Rattle.lists.specs.Tab.{removeAt, put}
+use Rattle.lists.specs.Tab.{put}
 use Rattle.lists.proofs.Tabs.{tab-suc, length-put, getD-put-in, getD-put-before}
 use Rattle.words.specs.Words.{without}
 use Rattle.words.proofs.Records as records

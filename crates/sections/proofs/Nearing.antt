@@ -1,11 +1,10 @@
 -- Laws of the quick test: a bit that is in both differences where two spans meet, and the sections of a list four at a time.
-use Prim.Native.Nat.{ℕ, zero, suc, _+_, _*_, _%_, _-_, _^_, _≤_, _<_, min, max}
-use mathlib.Core.Path.{_≡_, refl, sym, ap₂, _∙_}
-use mathlib.Core.Bool.{Bool, true, false, _&&_, _||_}
+use Prim.Native.Nat.{ℕ, _+_, _*_, _%_, _-_, _^_, _≤_, _<_, min, max}
+use mathlib.Core.Path.{_≡_, refl, ap₂, _∙_}
+use mathlib.Core.Bool.{Bool, true, false, _&&_}
 use native.Mathlib.Nat.{add-zero}
 use native.Mathlib.Omega.{arith}
 use borrow.Author.Tests.{ltb-true}
-use lib.Dec.{ltb}
 use lib.Bits.{bitAnd, bitOr, and-block, and-le-r, or-add-and, or-comm}
 use Rattle.lists.specs.Lowest.{anyBelow}
 use Rattle.lists.proofs.Flags.{and-first}

@@ -5,7 +5,7 @@ use mathlib.Core.List.{List}
 use native.Mathlib.Omega.{arith}
 use lib.ListN.{length, getD, take, drop}
 use lib.Seq.{ext-getD, getD-take, getD-drop}
-use Rattle.lists.specs.Tab.{tab, put}
+use Rattle.lists.specs.Tab.{put}
 use Rattle.lists.proofs.Tabs.{length-tab, getD-tab}
 use Rattle.words.proofs.Records as records
 use Rattle.bin_section.specs.declared.section.BinSection.{BinSection}

@@ -1,5 +1,4 @@
 // The free sections of a chamber: the first count of a list of sections.
-ghost use mathlib.Core.Path.{_≡_};
 ghost use Prim.Native.Nat.{_+_, _*_, _≤_, _<_};
 ghost use lib.ListN.{length};
 ghost use Rattle.sections.specs.Leaning.{Removed, Appended, Cleared};

@@ -1,16 +1,14 @@
 -- The cases of checks 1 to 3, as the code comes to them.
 use Prim.Native.Nat.{ℕ, zero, suc, _+_, _*_, _-_, _%_, _≤_, _<_}
 use mathlib.Core.Path.{_≡_, refl, sym, ap, _∙_}
-use mathlib.Core.List.{List, [], _∷_}
-use mathlib.Core.Bool.{Bool, true, false, not}
+use mathlib.Core.List.{List}
+use mathlib.Core.Bool.{true, false}
 use native.Mathlib.Omega.{arith}
-use borrow.Author.Tests.{lt-ltb, le-ltb, eq-eqb, ne-eqb, le-leb, lt-leb}
+use borrow.Author.Tests.{eq-eqb, ne-eqb, le-leb, lt-leb}
 use lib.ListN.{length, take, drop}
 use lib.Dec.{ltb, leb, eqb}
 use Rattle.lists.specs.Lowest.{lowest, anyBelow}
 use Rattle.lists.proofs.Flags.{and-no-first, and-no-second}
-use Rattle.lists.proofs.Lowests.{None, none-of-lowest}
-use Rattle.replies.specs.Replies.{reply}
 use Rattle.sections.specs.Inside.{outsideAt}
 use Rattle.lists.proofs.Lowests.{any-lowest}
 use Rattle.target_bin.specs.declared.chamber.TargetBin.{TargetBin}
@@ -18,7 +16,7 @@ use Rattle.target_bin.specs.Chambers.{chamberAt, chamberCount}
 use Rattle.replies.specs.declared.reply.Reply.{Reply}
 use Rattle.target_bin.specs.Outcome.{outcome}
 use Rattle.target_bin.specs.Store.{partAt}
-use Rattle.target_bin.specs.Checks.{lengthsOk, idOk, badChamber, badSections, check1, check2, check3, tableChecks}
+use Rattle.target_bin.specs.Checks.{lengthsOk, idOk, badSections}
 use Rattle.target_bin.proofs.Parts.{lent-part}
 
 -- ---- 1: a table's length

@@ -1,18 +1,14 @@
 -- Laws of fresh chambers: one part, one turn of the loop over the chambers, its end, and what is left in the model.
 use Prim.Native.Nat.{ℕ, zero, suc, _+_, _*_, _-_, _≤_, _<_}
 use mathlib.Core.Path.{_≡_, refl, sym, ap, ap₂, _∙_}
-use mathlib.Core.List.{List, [], _∷_, _++_, append-nil, map}
-use mathlib.Core.Bool.{true, false, not}
-use native.Mathlib.Numerals.{add-one}
+use mathlib.Core.List.{List, [], _∷_, _++_, map}
 use native.Mathlib.Omega.{arith}
-use lib.ListN.{length, getD, drop, replicate, drop-of-length-le}
-use lib.Seq.{take-at, drop-at, drop-drop, getD-append-add, getD-drop}
+use lib.ListN.{length, getD, drop, replicate}
+use lib.Seq.{getD-append-add, getD-drop}
 use Rattle.lists.specs.Tab.{tab, put}
 use Rattle.lists.proofs.Tabs.{length-put}
 use Rattle.bin_section.specs.declared.section.BinSection.{BinSection}
 use Rattle.bin_section.specs.Section.{wholeSection, sectionWords}
-use Rattle.replies.specs.Replies.{reply}
-use Rattle.lists.specs.Lowest.{lowest}
 use Rattle.words.specs.Words.{joined}
 use Rattle.sections.specs.Sections.{sections, allWords}
 use Rattle.sections.specs.Leaning.{Cleared}
@@ -21,9 +17,7 @@ use Rattle.sections.proofs.Moves.{appended}
 use Rattle.target_bin.specs.declared.chamber.TargetBin.{TargetBin}
 use Rattle.target_bin.specs.Chambers.{freshBin, chamberAt, binWords, chamberCount, chambersOf, tableOf}
 use Rattle.target_bin.specs.Store.{partOf, storeOf}
-use Rattle.target_bin.specs.Checks.{lengthsOk, badShape, check1, check2Fresh}
-use Rattle.target_bin.specs.Outcome.{Outcome, outcome, refused}
-use Rattle.target_bin.specs.Fresh.{freshened, freshTable, freshStore, freshOf}
+use Rattle.target_bin.specs.Fresh.{freshened, freshTable, freshStore}
 use Rattle.target_bin.proofs.Tables.{chamber-layout}
 use Rattle.target_bin.proofs.Parts.{length-partOf}
 

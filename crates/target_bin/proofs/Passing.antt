@@ -1,15 +1,14 @@
 -- What checks 1, 2 and 3 mean: they pass exactly where the tables are sound.
-use Prim.Native.Nat.{ℕ, zero, suc, _*_, _-_, _%_, _≤_, _<_}
-use mathlib.Core.Path.{_≡_, refl, sym, ap, _∙_}
-use mathlib.Core.List.{List, [], _∷_}
-use mathlib.Core.Bool.{Bool, true, false, _&&_, not}
+use Prim.Native.Nat.{ℕ, zero, suc, _*_, _%_, _≤_, _<_}
+use mathlib.Core.Path.{_≡_, refl, ap, _∙_}
+use mathlib.Core.List.{List}
+use mathlib.Core.Bool.{true, false, _&&_, not}
 use native.Mathlib.Omega.{arith}
-use borrow.Author.Tests.{lt-ltb, eq-eqb, le-leb, ltb-true, ltb-false, leb-true, eqb-true, not-false}
+use borrow.Author.Tests.{lt-ltb, eq-eqb, le-leb, ltb-true, leb-true, eqb-true, not-false}
 use lib.ListN.{length}
-use lib.Dec.{ltb, leb, eqb}
-use Rattle.lists.specs.Lowest.{lowest}
+use lib.Dec.{leb, eqb}
 use Rattle.lists.proofs.Flags.{and-both, and-first, and-second}
-use Rattle.lists.proofs.Lowests.{None, none-of-lowest, any-none, none-any, lowest-none}
+use Rattle.lists.proofs.Lowests.{None, any-none, none-any}
 use Rattle.replies.specs.declared.reply.Reply.{Reply}
 use Rattle.bin_section.specs.Sides.{sidesOk}
 use Rattle.bin_section.specs.Section.{sectionAt}
@@ -20,7 +19,7 @@ use Rattle.bin_section.proofs.Bounding.{inside→, →inside}
 use Rattle.bin_section.proofs.Ranges.{SidesInRange, sides→range, range→sides}
 use Rattle.target_bin.specs.Chambers.{chamberAt, chamberCount}
 use Rattle.target_bin.specs.Store.{partAt}
-use Rattle.target_bin.specs.Checks.{lengthsOk, idOk, shapeOk, chamberOk, badShape, badChamber, badSections, check1, check2, check3, tableChecks}
+use Rattle.target_bin.specs.Checks.{lengthsOk, idOk, shapeOk, chamberOk, badShape, badChamber, badSections, tableChecks}
 use Rattle.target_bin.specs.Leaning.{Counted, Shaped}
 use Rattle.target_bin.proofs.Checking.{lengths-store}
 use Rattle.replies.proofs.Ladders.{AllPass, row-passes, no-fault, none-passes}

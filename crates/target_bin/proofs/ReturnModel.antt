@@ -1,29 +1,28 @@
 -- What a return leaves, as lists: one count more and the box among the free sections; and where it is accepted.
-use Prim.Native.Nat.{ℕ, suc, _+_, _*_, _-_, _/_, _≤_, _<_}
+use Prim.Native.Nat.{ℕ, suc, _+_, _*_, _/_, _≤_, _<_}
 use mathlib.Core.Path.{_≡_, refl, sym, ap, ap₂, _∙_}
 use mathlib.Core.Logic.{_↔_}
 use mathlib.Core.List.{List, [], _∷_, _++_}
 use mathlib.Core.Bool.{not, true, false, Bool}
 use native.Mathlib.Decide.{ℕ-discrete}
 use native.Mathlib.Omega.{arith}
-use borrow.Author.Tests.{eqb-true, eqb-false, ltb-true, not-false, lt-ltb, le-ltb, ne-eqb}
+use borrow.Author.Tests.{eqb-true, eqb-false, ltb-true, not-false, lt-ltb, ne-eqb}
 use lib.ListN.{length, set, length-set}
-use lib.Dec.{eqb}
 use Rattle.lists.specs.Lowest.{lowest, anyBelow}
 use Rattle.lists.specs.Tab.{put}
 use Rattle.lists.proofs.Tabs.{length-put}
 use Rattle.lists.proofs.Flags.{true-false}
-use Rattle.lists.proofs.Lowests.{lowest-fires, lowest-none}
+use Rattle.lists.proofs.Lowests.{lowest-fires}
 use Rattle.bin_section.specs.declared.section.BinSection.{BinSection}
 use Rattle.replies.specs.declared.reply.Reply.{Reply}
 use Rattle.bin_section.specs.Section.{sectionAt, sectionWords}
 use Rattle.bin_section.specs.Sides.{sides}
 use Rattle.bin_section.specs.Cell.{SharesCell}
 use Rattle.bin_section.proofs.Sharing.{shares→overlaps, overlaps→shares}
-use Rattle.replies.specs.Replies.{Check, reply, once, each, inOrder}
+use Rattle.replies.specs.Replies.{Check, reply}
 use Rattle.sections.specs.Sections.{sections}
 use Rattle.sections.specs.Inside.{sharesAt}
-use Rattle.bin_section.specs.Inside.{Inside, insideOf}
+use Rattle.bin_section.specs.Inside.{Inside}
 use Rattle.bin_section.proofs.Bounding.{inside→, →inside}
 use Rattle.lists.proofs.Lowests.{any-lowest}
 use Rattle.sections.proofs.Moves.{appended}
@@ -32,7 +31,7 @@ use Rattle.target_bin.specs.declared.chamber.TargetBin.{TargetBin}
 use Rattle.target_bin.specs.Chambers.{bin, chamberAt, chamberCount, chambersOf, hasId, chamberOf}
 use Rattle.target_bin.specs.Store.{partAt, freeAt, freeOf}
 use Rattle.target_bin.specs.Leaning.{OnlyIn}
-use Rattle.target_bin.specs.Checks.{badChamber, badSections, check1, check2, check3, tableChecks}
+use Rattle.target_bin.specs.Checks.{tableChecks}
 use Rattle.target_bin.specs.Outcome.{Outcome, outcome, refused}
 use Rattle.target_bin.specs.Return.{pushChecks, returnChecks, stored, returned, returnOf}
 use Rattle.replies.proofs.Ladders.{row-passes, alone-fires, past, past-all, in-map, no-fault, none-passes}

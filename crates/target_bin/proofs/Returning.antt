@@ -1,26 +1,22 @@
 -- Laws of a return: which case its checks lead to, and what an accepted one writes.
 use Prim.Native.Nat.{ℕ, _+_, _*_, _-_, _≤_, _<_}
-use mathlib.Core.Path.{_≡_, refl, sym, ap, ap₂, _∙_}
-use mathlib.Core.List.{List, [], _∷_}
-use mathlib.Core.Bool.{true, false, not}
+use mathlib.Core.Path.{_≡_, refl, sym, ap, _∙_}
+use mathlib.Core.List.{List}
+use mathlib.Core.Bool.{true, not}
 use native.Mathlib.Omega.{arith}
 use borrow.Rule.Slice.PartMut.{putMid}
-use borrow.Author.Tests.{eqb-false, eq-eqb, ne-eqb}
+use borrow.Author.Tests.{eqb-false}
 use lib.ListN.{length, take, drop, set}
-use lib.Dec.{eqb}
-use Rattle.lists.specs.Lowest.{lowest, anyBelow}
+use Rattle.lists.specs.Lowest.{anyBelow}
 use Rattle.lists.specs.Tab.{put}
 use Rattle.bin_section.specs.declared.section.BinSection.{BinSection}
 use Rattle.replies.specs.declared.reply.Reply.{Reply}
 use Rattle.bin_section.specs.Section.{sectionWords}
-use Rattle.replies.specs.Replies.{Check, reply, once, each, inOrder}
-use Rattle.bin_section.specs.Inside.{insideOf}
-use Rattle.sections.specs.Inside.{sharesAt}
+use Rattle.replies.specs.Replies.{Check, reply, inOrder}
 use Rattle.target_bin.specs.declared.chamber.TargetBin.{TargetBin}
 use Rattle.target_bin.specs.Return.{pushChecks, returnChecks, stored, returned, returnOf}
 use Rattle.lists.proofs.Lowests.{any-lowest}
 use Rattle.target_bin.specs.Chambers.{chamberAt, chamberCount, hasId, chamberOf}
-use Rattle.target_bin.specs.Store.{partAt}
 use Rattle.target_bin.specs.Checks.{tableChecks}
 use Rattle.target_bin.specs.Outcome.{Outcome, outcome, refused}
 use Rattle.replies.proofs.Ladders.{AllPass, fires, passes, found-at, none-at, row-passes, alone-fires, past, past-all}

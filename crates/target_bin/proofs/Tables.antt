@@ -1,10 +1,10 @@
 -- Laws of the chamber table: one record in the words, and that reading and writing are each other's inverse.
 use Prim.Native.Nat.{ℕ, _+_, _*_, _/_, _≤_, _<_}
-use mathlib.Core.Path.{_≡_, refl, sym, ap, _∙_}
+use mathlib.Core.Path.{_≡_, refl, ap, _∙_}
 use mathlib.Core.List.{List}
 use native.Mathlib.Nat.{add-zero}
 use native.Mathlib.Omega.{arith}
-use lib.ListN.{length, getD, take, drop, set, length-set}
+use lib.ListN.{length, getD, set, length-set}
 use lib.Seq.{getD-set-same, getD-set-other, take-all}
 use Rattle.lists.specs.Tab.{tab}
 use Rattle.lists.proofs.Tabs.{length-tab, getD-tab, tab-set, middle}

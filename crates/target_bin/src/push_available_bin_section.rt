@@ -1,6 +1,6 @@
 // A section put back among the free sections of one chamber.
 ghost use mathlib.Core.Path.{_≡_};
-ghost use Prim.Native.Nat.{_+_, _*_, _≤_};
+ghost use Prim.Native.Nat.{_*_, _≤_};
 ghost use lib.ListN.{length};
 ghost use Rattle.lists.specs.Tab.{put};
 ghost use Rattle.bin_section.specs.Section.{sectionWords};

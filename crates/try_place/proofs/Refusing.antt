@@ -1,5 +1,4 @@
 -- Laws of a try whose answer comes first: a refusal has nothing else to give, and what is placed passed every check.
-use Prim.Native.Nat.{ℕ}
 use mathlib.Core.Path.{_≡_, refl, ap, _∙_}
 use mathlib.Core.List.{List, [], _∷_}
 use native.Mathlib.Omega.{arith}

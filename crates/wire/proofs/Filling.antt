@@ -4,7 +4,7 @@ use mathlib.Core.Path.{_≡_, refl, sym, ap, _∙_}
 use mathlib.Core.List.{List, [], _∷_, _++_}
 use native.Mathlib.Numerals.{add-one, towards-suc}
 use native.Mathlib.Omega.{arith}
-use lib.ListN.{length, take, drop, set, getD, length-append, length-drop}
+use lib.ListN.{length, drop, set, getD, length-append}
 use lib.Seq.{sets-eq}
 use Rattle.lists.specs.Tab.{tab, put}
 use Rattle.lists.proofs.Tabs.{length-tab, tab-suc}

@@ -3,7 +3,7 @@ ghost use mathlib.Core.Path.{_≡_};
 ghost use mathlib.Core.List.{_++_};
 ghost use Prim.Native.Nat.{_+_, _*_, _≤_};
 ghost use lib.ListN.{length, drop};
-ghost use Rattle.lists.specs.Tab.{tab, put};
+ghost use Rattle.lists.specs.Tab.{put};
 ghost use Rattle.wire.specs.Word.{wordAt, bytesOf, wordsIn, bytesIn};
 
 // The word at index i.

@@ -1,6 +1,6 @@
-use Rattle.lists.proofs.Kit.{_+_, _/_, _≤_, _≡_, sym, _∙_, true, arith, now, not-false, length, needs}
+use Rattle.lists.proofs.Kit.{_+_, _/_, _≤_, sym, _∙_, arith, now, not-false, length, needs}
 use Rattle.replies.proofs.Ladders.{checks, none-found}
-use Rattle.audit.specs.Audit.{boxListsOk, auditBoxes, auditReply}
+use Rattle.audit.specs.Audit.{auditReply}
 use Rattle.audit.proofs.TwoLists.{boxes-length}
 use Rattle.audit.proofs.Tests.{chamber-small, none-inside}
 use Rattle.audit.proofs.Replying.{lengths}

@@ -1,4 +1,4 @@
-use Rattle.lists.proofs.Kit.{refl, needs}
+use Rattle.lists.proofs.Kit.{needs}
 use Rattle.wire.specs.Word.{wordAt}
 use Rattle.wire.proofs.read_word as it
 

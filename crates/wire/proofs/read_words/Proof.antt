@@ -1,4 +1,4 @@
-use Rattle.lists.proofs.Kit.{needs, arith, _-_}
+use Rattle.lists.proofs.Kit.{needs, _-_}
 use Rattle.wire.proofs.Filling.{WordsRead, read-none, read-more, read-all}
 use Rattle.wire.proofs.read_words as it
 

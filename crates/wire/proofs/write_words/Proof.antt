@@ -1,4 +1,4 @@
-use Rattle.lists.proofs.Kit.{needs, arith, _-_}
+use Rattle.lists.proofs.Kit.{needs, _-_}
 use Rattle.wire.proofs.Filling.{WordsWritten, written-none, written-more, written-all}
 use Rattle.wire.proofs.write_words as it
 

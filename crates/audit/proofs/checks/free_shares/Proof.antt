@@ -1,4 +1,4 @@
-use Rattle.lists.proofs.Kit.{now, needs}
+use Rattle.lists.proofs.Kit.{needs}
 use Rattle.audit.proofs.TwoLists.{shares-placed, shares-free}
 use Rattle.audit.proofs.checks.free_shares as it
 

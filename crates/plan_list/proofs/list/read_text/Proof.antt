@@ -1,4 +1,4 @@
-use Rattle.lists.proofs.Kit.{now, needs}
+use Rattle.lists.proofs.Kit.{needs}
 use Rattle.plan_list.proofs.Lines.{read-too-long, read-whole}
 use Rattle.plan_list.proofs.list.read_text as it
 

@@ -1,4 +1,4 @@
-use Rattle.lists.proofs.Kit.{arith, needs}
+use Rattle.lists.proofs.Kit.{needs}
 use Rattle.rectangle_pack.proofs.Checked.{rect-odd, rect-many, rect-places}
 use Rattle.rectangle_pack.proofs.checks.rect_lengths_ok as it
 

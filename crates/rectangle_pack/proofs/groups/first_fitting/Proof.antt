@@ -1,4 +1,4 @@
-use Rattle.lists.proofs.Kit.{needs, _-_, _≤_, _≡_, refl, sym, _∙_, arith, length, getD, take}
+use Rattle.lists.proofs.Kit.{needs, _-_, _≤_, _≡_, refl, sym, _∙_, length, getD, take}
 use Rattle.lists.proofs.Lowests.{None, none-zero, none-more}
 use Rattle.target_bin.specs.Store.{freeOf}
 use Rattle.grouped_rects_to_place.specs.Rect.{rectAt}

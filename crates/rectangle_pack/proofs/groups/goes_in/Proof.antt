@@ -1,4 +1,4 @@
-use Rattle.lists.proofs.Kit.{now, sym, needs}
+use Rattle.lists.proofs.Kit.{now, needs}
 use Rattle.rectangle_pack.proofs.Serving.{lent-enough, copy-room, copy-enough, trial-here}
 use Rattle.rectangle_pack.proofs.groups.goes_in as it
 

@@ -1,5 +1,4 @@
 use Rattle.lists.proofs.Kit.{now, _≡_, ap, _∙_, arith, ℕ, _≤_, List, length, take, needs}
-use Prim.Native.Nat.{min}
 use lib.ListN.{length-take}
 use Rattle.target_bin.specs.declared.chamber.TargetBin.{TargetBin}
 use Rattle.target_bin.proofs.Parts.{came-back}

@@ -1,8 +1,7 @@
-use Rattle.lists.proofs.Kit.{sym, ap, needs}
+use Rattle.lists.proofs.Kit.{needs}
 use Rattle.target_bin.proofs.Parts.{lend}
 use Rattle.sections.specs.Leaning.{Cleared}
 use Rattle.rectangle_pack.proofs.Tidying.{tail-room}
-use Rattle.target_bin.specs.declared.chamber.TargetBin.{TargetBin}
 use Rattle.rectangle_pack.proofs.packing.clear_tail as it
 
 clear-past-requires : it.Tie.Need-clear-past-requires

@@ -1,4 +1,4 @@
-use Rattle.lists.proofs.Kit.{needs, _-_, arith}
+use Rattle.lists.proofs.Kit.{needs, _-_}
 use Rattle.target_bin.specs.Chambers.{chamberCount}
 use Rattle.rectangle_pack.proofs.Tidying.{Tidying, tidying-none, tidying-more, tidying-all, shaped-still}
 use Rattle.rectangle_pack.proofs.packing.clear_tails as it

@@ -1,4 +1,4 @@
-use Rattle.lists.proofs.Kit.{now, _≡_, refl, sym, _∙_, arith, needs}
+use Rattle.lists.proofs.Kit.{now, arith, needs}
 use Rattle.rectangle_pack.proofs.Tidying.{tidied-ready}
 use Rattle.rectangle_pack.proofs.Ending.{packing-done}
 use Rattle.rectangle_pack.proofs.packing.pack_checked as it

@@ -1,4 +1,4 @@
-use Rattle.lists.proofs.Kit.{needs, not-true, not-false, _-_, _≡_, refl, sym, _∙_, arith, length}
+use Rattle.lists.proofs.Kit.{needs, not-true, not-false, _-_, _≡_, refl, _∙_, arith, length}
 use Rattle.grouped_rects_to_place.specs.Rect.{rectAt}
 use Rattle.rectangle_pack.proofs.Running.{Running, running-none, indices-still, next-ready, next-served, next-refused, running-end}
 use Rattle.rectangle_pack.proofs.packing.pack_groups as it

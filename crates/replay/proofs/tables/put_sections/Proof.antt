@@ -1,4 +1,4 @@
-use Rattle.lists.proofs.Kit.{needs, _≡_, _-_, _*_, _≤_, length}
+use Rattle.lists.proofs.Kit.{needs, _≡_, _-_, _≤_, length}
 use Rattle.replay.proofs.tables.put_sections as it
 
 abbrev Inv-loop : it.Tie.InvT-loop

@@ -16,11 +16,10 @@ unfolding chamberOf
 returns c = lowest-at _ _ _ (search needs) (search needs) (eq-eqb _ _ (ap (λ (b : TargetBin). b .id) (sym (c .before .before .read .ensures)) ∙ c .if1 .taken))
 
 loop-again : it.Tie.Need-loop-again Inv-loop μ-loop
-loop-again c =
-    (
-      search needs,
-      lowest-next _ _ _ (search needs) (search needs) (ne-eqb _ _ (λ e. c .if1 .left (ap (λ (b : TargetBin). b .id) (c .before .before .read .ensures) ∙ e))),
-    )
+loop-again c = (
+  search needs,
+  lowest-next _ _ _ (search needs) (search needs) (ne-eqb _ _ (λ e. c .if1 .left (ap (λ (b : TargetBin). b .id) (c .before .before .read .ensures) ∙ e))),
+)
 
 pub find-chamber-spec : {M : Type 1} → it.Statement.statement M
 unfolding chamberOf

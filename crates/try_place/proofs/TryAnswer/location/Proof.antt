@@ -1,5 +1,5 @@
 -- `let .. else` on the answer: past the `else` its tag is one of the refusals'.
-use Rattle.lists.proofs.Kit.{needs, _≡_, refl, sym, ap, _∙_, [], _∷_}
+use Rattle.lists.proofs.Kit.{needs, _≡_, refl, [], _∷_}
 use types.Run.{OneOf, miss}
 use denote.Enum.Declared.{tagOf}
 use Rattle.try_place.specs.declared.TryAnswer.{TryAnswer}
