@@ -3,7 +3,7 @@ use Prim.Native.Nat.{ℕ, _+_, _*_, _-_, _/_, _%_, _<_}
 use mathlib.Core.Path.{_≡_, refl, sym, ap}
 use mathlib.Core.Logic.{_⊎_, inl, inr}
 use mathlib.Core.List.{List}
-use mathlib.Core.Bool.{true, false, _&&_}
+use mathlib.Core.Bool.{true, false, not, _&&_}
 use native.Mathlib.Nat.{sub-zero}
 use native.Mathlib.Omega.{arith}
 use borrow.Author.Tests.{lt-leb}
@@ -13,9 +13,9 @@ use Rattle.lists.proofs.Flags.{and-no-second}
 use Rattle.bin_section.specs.declared.width_height_depth.WidthHeightDepth.{WidthHeightDepth}
 use Rattle.replies.specs.declared.reply.Reply.{Reply}
 use Rattle.replies.specs.Replies.{reply}
+use Rattle.replies.proofs.Ladders.{fires}
 use Rattle.wire.proofs.Filling.{length-wordsIn}
 use Rattle.audit.specs.Audit.{boxListsOk, auditReply}
-use Rattle.audit.proofs.Replying.{reply-length}
 use Rattle.box_input.specs.declared.InputHead.{InputHead}
 use Rattle.box_input.specs.declared.BoxInput.{BoxInput}
 use Rattle.box_input.specs.declared.BoxInput.the-variants.{Boxes, NoInput}
@@ -70,7 +70,7 @@ pub too-many :
     (b : List ℕ)
     → 1024 < inputPlacedCount b + inputFreeCount b
     → auditReply (inputChamber b) (inputPlaced b) (inputFree b) ≡ reply 1 0
-unfolding boxListsOk
+unfolding boxListsOk auditReply
 too-many b h =
     let p = length (inputPlaced b) in
     let f = length (inputFree b) in
@@ -78,4 +78,4 @@ too-many b h =
     omega (arith, length-wordsIn (drop 25 b) (inputPlacedCount b * 6), length-wordsIn (drop (25 + inputPlacedCount b * 24) b) (inputFreeCount b * 6)) in
     let few = leb (p / 6 + f / 6) 1024 in
     let wrong = and-no-second (eqb (f % 6) 0) few (lt-leb (p / 6 + f / 6) 1024 over) in
-    sym (reply-length (inputChamber b) (inputPlaced b) (inputFree b) (and-no-second (eqb (p % 6) 0) (eqb (f % 6) 0 && few) wrong))
+    fires _ _ _ _ (ap not (and-no-second (eqb (p % 6) 0) (eqb (f % 6) 0 && few) wrong))

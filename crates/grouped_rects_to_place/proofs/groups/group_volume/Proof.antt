@@ -1,4 +1,4 @@
-use Rattle.lists.proofs.Kit.{ℕ, _-_, _≤_, _*_, _≡_, refl, ap, _∙_, needs, arith, add-one}
+use Rattle.lists.proofs.Kit.{ℕ, _+_, _-_, _≤_, _*_, _≡_, refl, ap, _∙_, needs, arith, add-one}
 use mathlib.Core.Path.{ap₂}
 use Rattle.grouped_rects_to_place.specs.Rect.{rectAt}
 use Rattle.grouped_rects_to_place.specs.Groups.{share, groupVolume}
