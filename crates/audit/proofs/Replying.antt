@@ -1,6 +1,6 @@
 -- Which reply each row of checks leads to, and what a reply that names a box says of its index.
 use Prim.Native.Nat.{ℕ, _+_, _*_, _/_, _%_, _≤_, _<_}
-use mathlib.Core.Path.{_≡_, refl, sym, ap, _∙_}
+use mathlib.Core.Path.{_≡_, refl, sym, ap, _∙_, subst}
 use mathlib.Core.Logic.{_⊎_, inl, inr}
 use mathlib.Core.List.{List, [], _++_}
 use mathlib.Core.Bool.{Bool, true, false, not, _&&_, _||_, cond}
@@ -15,7 +15,7 @@ use Rattle.bin_section.specs.declared.section.BinSection.{BinSection}
 use Rattle.replies.specs.declared.reply.Reply.{Reply}
 use Rattle.bin_section.specs.Sides.{volumeOf, sidesOk}
 use Rattle.replies.specs.Replies.{reply, inOrder}
-use Rattle.replies.proofs.Ladders.{fires, passes, past, past-all}
+use Rattle.replies.proofs.Ladders.{fires, passes, past, past-all, of-each}
 use Rattle.bin_section.specs.Inside.{outside}
 use Rattle.cells.specs.Whole.{boxAt, volumes}
 use Rattle.sections.specs.Inside.{sharesEarlier}
@@ -23,14 +23,14 @@ use Rattle.audit.specs.Audit.{auditBoxes, boxListsOk, auditChecks, audit
 use Rattle.audit.proofs.TwoLists.{boxes-length}
 
 -- what lengths that pass check 1 have
-pub record Lengths (placed free : ℕ) : Type 0 where
+pub record BoxLengths (placed free : ℕ) : Type 0 where
   pub placed-whole : placed % 6 ≡ 0
   pub free-whole : free % 6 ≡ 0
   pub few : placed / 6 + free / 6 ≤ 1024
 
-pub lengths : (placed free : ℕ) → boxListsOk placed free ≡ true → Lengths placed free
+pub box-lengths : (placed free : ℕ) → boxListsOk placed free ≡ true → BoxLengths placed free
 unfolding boxListsOk
-lengths placed free h =
+box-lengths placed free h =
     let p = eqb (placed % 6) 0 in
     let f = eqb (free % 6) 0 in
     let n = leb (placed / 6 + free / 6) 1024 in
@@ -77,45 +77,30 @@ module _ (whd : WidthHeightDepth) (placed free : List ℕ) where
 
 -- ---- a reply that names a box
 
--- the five checks, by whether they fire
-abbrev ordered : Bool → Bool → Bool → Bool → Bool → ℕ → ℕ → Reply
-ordered l c o s g i j = cond l (reply 1 0) (cond c (reply 2 0) (cond o (reply 16 i) (cond s (reply 17 j) (cond g (reply 18 0) (reply 0 0)))))
-
 -- it is 16 or 17
 abbrev pub namesBox : Reply → Bool
 namesBox r = eqb (r .number) 16 || eqb (r .number) 17
 
-ordered-named : (l c o s g : Bool) (i j : ℕ) → namesBox (ordered l c o s g i j) ≡ true
-    → (l ≡ false) × (((o ≡ true) × (ordered l c o s g i j .detail ≡ i)) ⊎ ((s ≡ true) × (ordered l c o s g i j .detail ≡ j)))
-ordered-named true c o s g i j h = absurd (true-false (sym h))
-ordered-named false true o s g i j h = absurd (true-false (sym h))
-ordered-named false false true s g i j h = (refl, inl (refl, refl))
-ordered-named false false false true g i j h = (refl, inr (refl, refl))
-ordered-named false false false false true i j h = absurd (true-false (sym h))
-ordered-named false false false false false i j h = absurd (true-false (sym h))
-
 module _ (whd : WidthHeightDepth) (placed free : List ℕ) (r : Reply) (e : r ≡ auditReply whd placed free) where
-  abbrev both : List BinSection
-  both = auditBoxes placed free
-
   -- its box is one of the two lists', and these are of six words a box
   pub named-box : namesBox r ≡ true → (length placed % 6 ≡ 0) × (r .detail < length placed / 6 + length free / 6)
-  unfolding auditReply inOrder
-  named-box h =
-      go (ordered-named (not (boxListsOk (length placed) (length free))) (not (sidesOk whd))
-      (ltb (firstOutside whd both) (length both)) (ltb (firstShared both) (length both))
-      (not (eqb (volumes both) (volumeOf whd))) (firstOutside whd both) (firstShared both) (rw e at h))
+  unfolding auditReply
+  named-box =
+      subst Named (sym e)
+      (of-each Named (auditChecks whd placed free (auditBoxes placed free)) (reply 0 0)
+      (λ _. other 1 refl, λ a. (λ _. other 2 refl, λ _. (λ f h. at a f, λ _. (λ f h. at a f, λ _. (λ _. other 18 refl, λ _. other 0 refl))))))
     where
-      below : (i : ℕ) → ltb i (length both) ≡ true → r .detail ≡ i → r .detail < length placed / 6 + length free / 6
-      below i l d = omega (arith, ltb-true i (length both) l, boxes-length placed free)
+      Named : Reply → Type 0
+      Named q = namesBox q ≡ true → (length placed % 6 ≡ 0) × (q .detail < length placed / 6 + length free / 6)
 
-      go :
-          (not (boxListsOk (length placed) (length free)) ≡ false)
-          × (((ltb (firstOutside whd both) (length both) ≡ true) × (auditReply whd placed free .detail ≡ firstOutside whd both))
-          ⊎ ((ltb (firstShared both) (length both) ≡ true) × (auditReply whd placed free .detail ≡ firstShared both)))
-          → (length placed % 6 ≡ 0) × (r .detail < length placed / 6 + length free / 6)
-      go (a, inl (l, d)) = (lengths (length placed) (length free) (not-false _ a) .placed-whole, below _ l (ap (λ (q : Reply). q .detail) e ∙ d))
-      go (a, inr (l, d)) = (lengths (length placed) (length free) (not-false _ a) .placed-whole, below _ l (ap (λ (q : Reply). q .detail) e ∙ d))
+      other : (n : ℕ) → namesBox (reply n 0) ≡ false → Named (reply n 0)
+      other n silent h = absurd (true-false (sym h ∙ silent))
+
+      at :
+          not (boxListsOk (length placed) (length free)) ≡ false
+          → {i : ℕ} → ltb i (length (auditBoxes placed free)) ≡ true
+          → (length placed % 6 ≡ 0) × (i < length placed / 6 + length free / 6)
+      at a {i} l = (box-lengths (length placed) (length free) (not-false _ a) .placed-whole, omega (arith, ltb-true i _ l, boxes-length placed free))
 
   pub audit-named : (words : List ℕ) → namesBox r ≡ true → words ≡ take 6 (drop (r .detail * 6) (placed ++ free)) → audited r words ≡ auditOf whd placed free
   unfolding auditOf shownOf

@@ -10,7 +10,8 @@ use Rattle.lists.proofs.Flags.{true-false, and-first, and-second}
 use Rattle.lists.proofs.Lowests.{None, any-none, any-some, none-any}
 use Rattle.bin_section.specs.declared.width_height_depth.WidthHeightDepth.{WidthHeightDepth}
 use Rattle.bin_section.specs.declared.section.BinSection.{BinSection}
-use Rattle.bin_section.specs.Sides.{sideOk, sidesOk, Small}
+use Rattle.bin_section.specs.Sides.{sideOk, sidesOk}
+use Rattle.bin_section.specs.Leaning.{Small}
 use Rattle.bin_section.specs.Cell.{SharesCell}
 use Rattle.bin_section.specs.Overlap.{overlapsOf}
 use Rattle.bin_section.proofs.Sharing.{overlaps→shares, shares→overlaps}

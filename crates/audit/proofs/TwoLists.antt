@@ -13,7 +13,7 @@ use Rattle.lists.specs.Lowest.{lowest, anyBelow}
 use Rattle.lists.proofs.Lowests.{lowest-first, lowest-second, any-same, any-parts, any-lowest}
 use Rattle.bin_section.specs.declared.width_height_depth.WidthHeightDepth.{WidthHeightDepth}
 use Rattle.bin_section.specs.declared.section.BinSection.{BinSection}
-use Rattle.bin_section.specs.Sides.{Small}
+use Rattle.bin_section.specs.Leaning.{Small}
 use Rattle.bin_section.specs.Section.{sectionAt, zeroSection, sectionWords}
 use Rattle.bin_section.specs.Overlap.{overlapsOf}
 use Rattle.cells.specs.Whole.{boxAt, Inside, AllInside, volumes}

@@ -4,7 +4,8 @@ ghost use Prim.Native.Nat.{_+_, _/_, _≤_, _<_};
 ghost use lib.Dec.{eqb};
 ghost use lib.ListN.{length};
 ghost use Rattle.lists.specs.Lowest.{lowest};
-ghost use Rattle.bin_section.specs.Sides.{volumeOf, Small};
+ghost use Rattle.bin_section.specs.Sides.{volumeOf};
+ghost use Rattle.bin_section.specs.Leaning.{Small};
 ghost use Rattle.bin_section.specs.Inside.{outside};
 ghost use Rattle.cells.specs.Whole.{boxAt, AllInside, volumes};
 ghost use Rattle.sections.specs.Inside.{sharesEarlier};
@@ -58,12 +59,10 @@ fn first_free_shared(placed: &[u32], free: &[u32]) -> usize
     ensures { λ r. ⌜ r ≡ lowest (length (now (free .entry)) / 6) (λ k. sharesEarlier (auditBoxes (now (placed .entry)) (now (free .entry))) (length (now (placed .entry)) / 6 + k)) ⌝ }
 {
     let n = boxes_in(free);
-    let mut k = 0;
-    while k < n {
+    for k in 0..n {
         if free_shares(placed, free, k) {
             return k;
         }
-        k += 1;
     }
     n
 }

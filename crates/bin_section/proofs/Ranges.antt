@@ -6,7 +6,8 @@ use native.Mathlib.Omega.{arith}
 use borrow.Author.Tests.{ltb-true, leb-true, lt-ltb, le-leb}
 use Rattle.lists.proofs.Flags.{and-both, and-first, and-second}
 use Rattle.bin_section.specs.declared.width_height_depth.WidthHeightDepth.{WidthHeightDepth}
-use Rattle.bin_section.specs.Sides.{sideOk, sidesOk, Small}
+use Rattle.bin_section.specs.Sides.{sideOk, sidesOk}
+use Rattle.bin_section.specs.Leaning.{Small}
 
 pub record InRange (side : ℕ) : Type 0 where
   pub some : 0 < side

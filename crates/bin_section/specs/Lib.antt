@@ -1,6 +1,7 @@
-pub mod Sides
-pub mod Section
 pub mod Boxes
 pub mod Cell
-pub mod Overlap
 pub mod Inside
+pub mod Leaning
+pub mod Overlap
+pub mod Section
+pub mod Sides

@@ -1,5 +1,5 @@
 -- Sides and volume.
-use Prim.Native.Nat.{ℕ, _*_, _≤_}
+use Prim.Native.Nat.{ℕ, _*_}
 use mathlib.Core.Bool.{Bool, _&&_}
 use mathlib.Core.List.{List}
 use lib.Dec.{ltb, leb}
@@ -27,9 +27,3 @@ sideOk side = ltb 0 side && leb side 65535
 
 abbrev pub sidesOk : WidthHeightDepth → Bool
 sidesOk s = sideOk (s .width) && (sideOk (s .height) && sideOk (s .depth))
-
--- no side is above 65,535
-pub record Small (s : WidthHeightDepth) : Type 0 where
-  pub width-small : s .width ≤ 65535
-  pub height-small : s .height ≤ 65535
-  pub depth-small : s .depth ≤ 65535

@@ -2,7 +2,8 @@
 ghost use mathlib.Core.Path.{_≡_};
 ghost use Prim.Native.Nat.{_≤_};
 ghost use lib.ListN.{length};
-ghost use Rattle.bin_section.specs.Sides.{sides, sidesIn, volumeOf, sideOk, sidesOk, Small};
+ghost use Rattle.bin_section.specs.Sides.{sides, sidesIn, volumeOf, sideOk, sidesOk};
+ghost use Rattle.bin_section.specs.Leaning.{Small};
 
 pub struct WidthHeightDepth {
     pub width: u32,

@@ -4,8 +4,7 @@ use mathlib.Core.Path.{_≡_, refl, ap, _∙_}
 use mathlib.Core.List.{List, [], _∷_, _++_, append-nil}
 use native.Mathlib.Omega.{arith}
 use borrow.Rule.Slice.PartMut.{putMid}
-use lib.ListN.{length, drop, set, getD, drop-of-length-le}
-use lib.Seq.{sets-eq}
+use lib.ListN.{length, drop, getD, drop-of-length-le}
 use Rattle.lists.specs.Tab.{put}
 use Rattle.lists.proofs.Fills.{front-put}
 use Rattle.lists.proofs.Tabs.{lent}
@@ -16,14 +15,9 @@ use Rattle.try_place.specs.declared.Tried.{Tried}
 use Rattle.try_place.specs.Try.{locationOf}
 use Rattle.cafunderi.specs.Try.{locationWords, threeWords, triedWords}
 
--- three words stored at the front
-pub three-stores : (w : List ℕ) (a b c : ℕ) → 3 ≤ length w → set (set (set w 0 a) 1 b) 2 c ≡ put w 0 (a ∷ b ∷ c ∷ [])
-unfolding put
-three-stores w a b c h = sets-eq (a ∷ b ∷ c ∷ []) w 0 h
-
 -- a table that is written up to its end
-pub written : (p w : List ℕ) (k : ℕ) → length w ≤ k → p ++ drop k w ≡ p
-written p w k h = ap (λ (l : List ℕ). p ++ l) (drop-of-length-le w h) ∙ append-nil p
+pub ends-there : (p w : List ℕ) (k : ℕ) → length w ≤ k → p ++ drop k w ≡ p
+ends-there p w k h = ap (λ (l : List ℕ). p ++ l) (drop-of-length-le w h) ∙ append-nil p
 
 -- three sections written one after the other
 pub three-written :
@@ -43,7 +37,7 @@ three-written w a b d three long ea eb ed =
     ed
     ∙ ap (λ (l : List ℕ). put l 12 behind) two
     ∙ front-put (right ++ above) behind w 12 refl
-    ∙ written (right ++ (above ++ behind)) w 18 (omega arith)
+    ∙ ends-there (right ++ (above ++ behind)) w 18 (omega arith)
 
 -- the location written, and then the rest, which was lent
 pub tried-written :
@@ -59,5 +53,5 @@ tried-written w a rest t l long el ea er =
     lent a rest 3 18 (ap length er)
     ∙ ap (λ (s : List ℕ). put s 3 rest) e
     ∙ front-put (locationWords l) rest w 3 refl
-    ∙ written (locationWords l ++ rest) w (3 + length rest) (omega (arith, ap length er))
+    ∙ ends-there (locationWords l ++ rest) w (3 + length rest) (omega (arith, ap length er))
     ∙ (λ i. locationWords (el i) ++ er i)

@@ -12,6 +12,7 @@ use replies::Reply;
 use try_place::PackedLocation;
 use try_place::Tried;
 use try_place::try_placement;
+use words::put_words;
 
 pub fn lengths_ok(section: &[u32], rectangle: &[u32], placed: &[u32]) -> bool
     ensures { λ r. ⌜ r ≡ tryLengthsOk (now (section .entry)) (now (rectangle .entry)) (now (placed .entry)) ⌝ }
@@ -48,9 +49,8 @@ fn write_location(placed: &mut [u32], location: PackedLocation)
     requires { ⌜ length (now placed) ≡ 21 ⌝ }
     ensures { λ _. ⌜ now (placed .exit) ≡ put (now (placed .entry)) 0 (locationWords location) ⌝ }
 {
-    placed[0] = location.x;
-    placed[1] = location.y;
-    placed[2] = location.z;
+    let words = [location.x, location.y, location.z];
+    put_words(placed, 0, &words);
 }
 
 fn write_sections(words: &mut [u32], sections: [BinSection; 3])

@@ -1,15 +1,14 @@
 -- What holds between two jobs of a run.
-use Prim.Native.Nat.{ℕ, zero, suc, _<_}
+use Prim.Native.Nat.{ℕ, _<_}
 use mathlib.Core.Path.{_≡_, refl, _∙_}
-use mathlib.Core.Logic.{_⊎_, inl, inr}
 use mathlib.Core.List.{List, _++_}
 use native.Mathlib.Decide.{decLt}
-use native.Mathlib.Nat.{eq-or-lt-of-le, le-of-suc-le-suc, not-suc-le-zero}
 use native.Mathlib.Omega.{arith}
 use Rattle.cells.specs.Whole.{Whole}
 use Rattle.target_bin.specs.Chambers.{chamberAt, chamberCount}
 use Rattle.target_bin.specs.Store.{freeAt}
 use Rattle.target_bin.proofs.Passing.{Sound}
+use Rattle.packing_rules.proofs.TrialOrders.{ids-rise}
 use Rattle.custody.specs.Ledger.{Ledger}
 use Rattle.custody.specs.Run.{Hall, hallOf, SameChambers, placedAt}
 
@@ -36,18 +35,10 @@ same-then p q =
 
 -- ids rise, so an id names one index
 module _ (chambers store : List ℕ) (s : Sound chambers store) where
-  ids-rise : (j k : ℕ) → j < k → k < chamberCount chambers → chamberAt chambers j .id < chamberAt chambers k .id
-  ids-rise j zero l h = absurd (not-suc-le-zero l)
-  ids-rise j (suc k) l h = go (eq-or-lt-of-le (le-of-suc-le-suc l)) (λ b. ids-rise j k b (omega arith))
-    where
-      go : (j ≡ k) ⊎ (j < k) → (j < k → chamberAt chambers j .id < chamberAt chambers k .id) → chamberAt chambers j .id < chamberAt chambers (suc k) .id
-      go (inl e) rest = rw e (s .shapes-ok .rising k h)
-      go (inr b) rest = omega (arith, rest b, s .shapes-ok .rising k h)
-
   pub one-index : (j k : ℕ) → j < chamberCount chambers → k < chamberCount chambers → chamberAt chambers j .id ≡ chamberAt chambers k .id → j ≡ k
   one-index j k hj hk e = go (decLt j k) (decLt k j)
     where
       go : Dec (j < k) → Dec (k < j) → j ≡ k
-      go (yes l) d = absurd (omega (arith, ids-rise j k l hk))
-      go (no l) (yes m) = absurd (omega (arith, ids-rise k j m hj))
+      go (yes l) d = absurd (omega (arith, ids-rise chambers (s .shapes-ok) j k l hk))
+      go (no l) (yes m) = absurd (omega (arith, ids-rise chambers (s .shapes-ok) k j m hj))
       go (no l) (no m) = omega arith

@@ -4,25 +4,22 @@ use mathlib.Core.Path.{_≡_, refl, sym, ap, ap₂, _∙_, subst}
 use mathlib.Core.List.{List, [], _++_}
 use mathlib.Core.Bool.{true, _&&_}
 use native.Mathlib.Omega.{arith}
-use borrow.Author.Tests.{lt-ltb, le-leb, eq-eqb}
-use lib.Dec.{ltb, leb, eqb}
+use borrow.Author.Tests.{le-leb, eq-eqb}
+use lib.Dec.{leb, eqb}
 use lib.ListN.{length, take}
 use lib.Seq.{length-take-le, take-all, take-take}
 use Rattle.lists.proofs.Flags.{and-both}
 use Rattle.replies.specs.declared.reply.Reply.{Reply}
 use Rattle.bin_section.specs.declared.section.BinSection.{BinSection}
 use Rattle.bin_section.specs.declared.width_height_depth.WidthHeightDepth.{WidthHeightDepth}
-use Rattle.bin_section.specs.Sides.{sideOk, sidesOk}
-use Rattle.bin_section.specs.Section.{sectionWords, zeroSection}
 use Rattle.replies.specs.Replies.{reply}
 use Rattle.cells.specs.Whole.{Whole}
 use Rattle.sections.specs.Sections.{sections, allWords}
-use Rattle.words.proofs.Records.{length-joined}
-use Rattle.sections.proofs.Reading.{length-sections, encoded, decoded}
+use Rattle.sections.proofs.Reading.{length-sections, length-allWords, encoded, decoded}
 use Rattle.target_bin.specs.Chambers.{chamberAt, chamberCount}
 use Rattle.target_bin.specs.Store.{partAt, freeAt}
 use Rattle.target_bin.proofs.Parts.{length-partAt}
-use Rattle.bin_section.proofs.Ranges.{InRange, SidesInRange}
+use Rattle.bin_section.proofs.Ranges.{range→sides}
 use Rattle.audit.specs.Audit.{boxesOf, auditBoxes, boxListsOk, shownOf, audited, auditOf}
 use Rattle.audit.proofs.Means.{audit-means}
 use Rattle.custody.specs.Run.{Hall, Run, fresh, packs, returns, begunWith, SameChambers, placedAt, freeCount, auditAt, AuditAccepts}
@@ -40,24 +37,12 @@ run-good (returns {hall} before id box there) = return-good hall (run-good befor
 
 -- ---- the audit's words
 
-side-ok : (side : ℕ) → InRange side → sideOk side ≡ true
-unfolding sideOk
-side-ok side h = and-both (ltb 0 side) (leb side 65535) (lt-ltb _ _ (h .some)) (le-leb _ _ (h .most))
-
-sides-ok : (whd : WidthHeightDepth) → SidesInRange whd → sidesOk whd ≡ true
-sides-ok whd h =
-    and-both (sideOk (whd .width)) (sideOk (whd .height) && sideOk (whd .depth)) (side-ok _ (h .width-ok))
-    (and-both (sideOk (whd .height)) (sideOk (whd .depth)) (side-ok _ (h .height-ok)) (side-ok _ (h .depth-ok)))
-
-words-long : (boxes : List BinSection) → length (allWords boxes) ≡ length boxes * 6
-words-long boxes = length-joined (λ s. sectionWords s) 6 boxes zeroSection (λ i h. refl)
-
 -- the words of a list of boxes, read again
 boxes-again : (boxes : List BinSection) → boxesOf (allWords boxes) ≡ boxes
 boxes-again boxes =
-    let many : length (allWords boxes) / 6 ≡ length boxes = omega (arith, words-long boxes) in
+    let many : length (allWords boxes) / 6 ≡ length boxes = omega (arith, length-allWords boxes) in
     ap (λ (n : ℕ). sections (allWords boxes) n) many
-    ∙ decoded boxes (allWords boxes) (length boxes) refl (take-all (length boxes * 6) (allWords boxes) (omega (arith, words-long boxes)))
+    ∙ decoded boxes (allWords boxes) (length boxes) refl (take-all (length boxes * 6) (allWords boxes) (omega (arith, length-allWords boxes)))
 
 -- the counted words of a part
 module _ (part : List ℕ) (n : ℕ) (fits : n * 6 ≤ length part) where
@@ -99,8 +84,8 @@ good-accepted f g =
           ap₂ (λ (a b : List BinSection). a ++ b) (boxes-again (placedAt f k)) (counted-boxes part n fits) in
           nothing-shown whd (allWords (placedAt f k)) (take (n * 6) part)
           (audit-means whd (allWords (placedAt f k)) (take (n * 6) part)
-          (lengths-ok (length (placedAt f k)) n (length (allWords (placedAt f k))) (length (take (n * 6) part)) (words-long (placedAt f k)) (counted-long part n fits) most)
-          (sides-ok whd (g .sound-tables .shapes-ok .sides k h)) .whole .1
+          (lengths-ok (length (placedAt f k)) n (length (allWords (placedAt f k))) (length (take (n * 6) part)) (length-allWords (placedAt f k)) (counted-long part n fits) most)
+          (range→sides whd (g .sound-tables .shapes-ok .sides k h)) .whole .1
           (subst (λ (bs : List BinSection). Whole whd bs) (sym same) (g .whole k h)));
     }
 

@@ -11,7 +11,7 @@ use Rattle.bin_section.specs.declared.width_height_depth.WidthHeightDepth.{Widt
 use Rattle.bin_section.specs.Sides.{sides}
 use Rattle.bin_section.specs.Section.{wholeSection}
 use Rattle.replies.specs.Replies.{Check, reply, once}
-use Rattle.cells.specs.Whole.{Inside, Whole}
+use Rattle.cells.specs.Whole.{Whole}
 use Rattle.cells.proofs.Grid.{has-le, has-in}
 use Rattle.lists.proofs.Totals.{total}
 use Rattle.cells.proofs.Held.{whole-held}
@@ -28,30 +28,19 @@ use Rattle.target_bin.proofs.Passing.{Lengths, lengths, ShapesSound, shapes-sou
 use Rattle.target_bin.proofs.Tables.{getD-chambersOf}
 use Rattle.target_bin.proofs.Parts.{getD-freeOf}
 use Rattle.target_bin.proofs.Freshening.{wholeOf}
-use Rattle.target_bin.proofs.FreshModel.{fresh-count, fresh-at, fresh-free, fresh-sound}
+use Rattle.target_bin.proofs.FreshModel.{whole-inside, fresh-count, fresh-at, fresh-free, fresh-sound}
 use Rattle.custody.specs.Ledger.{nothing}
 use Rattle.custody.specs.Run.{hallOf, freshHall, SameChambers}
 use Rattle.custody.proofs.Between.{Good}
 
 module _ (whd : WidthHeightDepth) (ok : SidesInRange whd) where
-  whole-inside : Inside whd (wholeSection whd)
-  whole-inside =
-      record {
-        wide = ok .width-ok .some;
-        tall = ok .height-ok .some;
-        deep = ok .depth-ok .some;
-        right = omega arith;
-        above = omega arith;
-        behind = omega arith;
-      }
-
   -- one section that is the whole chamber
   pub one-whole : Whole whd (wholeSection whd ∷ [])
   unfolding total
   one-whole =
       whole-held whd (wholeSection whd ∷ []) .1
       (record {
-        inside = inside-more whd (wholeSection whd) [] whole-inside (inside-none whd);
+        inside = inside-more whd (wholeSection whd) [] (whole-inside whd ok) (inside-none whd);
         once = λ cx cy cz c.
             omega (
               arith,

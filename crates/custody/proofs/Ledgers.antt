@@ -58,33 +58,17 @@ module _ (a b : BinSection) where
   pub same-box : sameBox a b ≡ true → a ≡ b
   unfolding sameBox
   same-box e =
-      let p1 = eqb (a .x) (b .x) in
-      let p2 = eqb (a .y) (b .y) in
-      let p3 = eqb (a .z) (b .z) in
-      let p4 = eqb (a .whd .width) (b .whd .width) in
-      let p5 = eqb (a .whd .height) (b .whd .height) in
-      let p6 = eqb (a .whd .depth) (b .whd .depth) in
-      let e2 = and-second p1 (p2 && (p3 && (p4 && (p5 && p6)))) e in
-      let e3 = and-second p2 (p3 && (p4 && (p5 && p6))) e2 in
-      let e4 = and-second p3 (p4 && (p5 && p6)) e3 in
-      let e5 = and-second p4 (p5 && p6) e4 in
-      let x : a .x ≡ b .x = eqb-true _ _ (and-first p1 (p2 && (p3 && (p4 && (p5 && p6)))) e) in
-      let y : a .y ≡ b .y = eqb-true _ _ (and-first p2 (p3 && (p4 && (p5 && p6))) e2) in
-      let z : a .z ≡ b .z = eqb-true _ _ (and-first p3 (p4 && (p5 && p6)) e3) in
-      let w : a .whd .width ≡ b .whd .width = eqb-true _ _ (and-first p4 (p5 && p6) e4) in
-      let h : a .whd .height ≡ b .whd .height = eqb-true _ _ (and-first p5 p6 e5) in
-      let d : a .whd .depth ≡ b .whd .depth = eqb-true _ _ (and-second p5 p6 e5) in
+      let x : a .x ≡ b .x = search (and-first, eqb-true) in
+      let y : a .y ≡ b .y = search (and-first, and-second, eqb-true) in
+      let z : a .z ≡ b .z = search (and-first, and-second, eqb-true) in
+      let w : a .whd .width ≡ b .whd .width = search (and-first, and-second, eqb-true) in
+      let h : a .whd .height ≡ b .whd .height = search (and-first, and-second, eqb-true) in
+      let d : a .whd .depth ≡ b .whd .depth = search (and-first, and-second, eqb-true) in
       λ t. record { x = x t; y = y t; z = z t; whd = record { width = w t; height = h t; depth = d t } }
 
 same-self : (a : BinSection) → sameBox a a ≡ true
 unfolding sameBox
-same-self a =
-    let q : (n : ℕ) → eqb n n ≡ true = λ n. eq-eqb n n refl in
-    and-both (eqb (a .x) (a .x)) _ (q (a .x))
-    (and-both (eqb (a .y) (a .y)) _ (q (a .y))
-    (and-both (eqb (a .z) (a .z)) _ (q (a .z))
-    (and-both (eqb (a .whd .width) (a .whd .width)) _ (q (a .whd .width))
-    (and-both (eqb (a .whd .height) (a .whd .height)) _ (q (a .whd .height)) (q (a .whd .depth))))))
+same-self a = let q : (n : ℕ) → eqb n n ≡ true = λ n. eq-eqb n n refl in search (and-both, q)
 
 -- the box taken out and the rest are the list
 pub taken-total : (w : BinSection → ℕ) (box : BinSection) {boxes : List BinSection} → In box boxes → w box + total w (takenOut box boxes) ≡ total w boxes

@@ -1,90 +1,55 @@
 -- A pack leaves every chamber whole: what was free is free still or lies in a box that its records place there; a pack refused by a
 -- check changes nothing.
-use Prim.Native.Nat.{ℕ, _+_, _*_, _≤_, _<_}
+use Prim.Native.Nat.{ℕ, _≤_, _<_}
 use mathlib.Core.Path.{_≡_, refl, sym, ap, _∙_, subst}
 use mathlib.Core.Logic.{_⊎_, inl, inr}
 use mathlib.Core.List.{List, [], _++_}
-use mathlib.Core.Bool.{true, false, _&&_}
+use mathlib.Core.Bool.{true, false}
 use native.Mathlib.Decide.{ℕ-discrete}
 use native.Mathlib.Omega.{arith}
-use borrow.Author.Tests.{ltb-true, ne-eqb, not-false, le-ltb}
-use lib.Dec.{ltb, leb, eqb}
-use lib.ListN.{length, getD, replicate, getD-replicate}
-use Rattle.lists.specs.Sort.{Each}
-use Rattle.lists.proofs.Flags.{cond-yes, cond-no, and-first, and-second, or-none}
-use Rattle.lists.proofs.Lowests.{None}
-use Rattle.lists.proofs.Sorts.{each-map, sort-each, each-tab}
+use borrow.Author.Tests.{ltb-true, ne-eqb}
+use lib.Dec.{ltb, eqb}
+use lib.ListN.{length, getD, replicate}
+use Rattle.lists.proofs.Flags.{cond-yes, cond-no, or-none}
 use Rattle.replies.specs.declared.reply.Reply.{Reply}
 use Rattle.bin_section.specs.declared.section.BinSection.{BinSection}
 use Rattle.bin_section.specs.declared.width_height_depth.WidthHeightDepth.{WidthHeightDepth}
-use Rattle.bin_section.specs.Sides.{sideOk, sidesOk, Small}
 use Rattle.replies.specs.Replies.{reply, inOrder}
 use Rattle.cells.specs.Whole.{Whole}
 use Rattle.cells.proofs.Grid.{has}
 use Rattle.cells.proofs.Held.{held, whole-same}
-use Rattle.cells.proofs.Insides.{inside-first, inside-second, inside-both}
+use Rattle.cells.proofs.Insides.{each-inside, inside-each, inside-first, inside-second, inside-both}
 use Rattle.target_bin.specs.declared.chamber.TargetBin.{TargetBin}
 use Rattle.target_bin.specs.Chambers.{chamberAt, chamberCount, tableOf}
 use Rattle.target_bin.specs.Store.{freeAt, freeOf, storeOf}
 use Rattle.replies.proofs.Ladders.{AllPass, answer-is}
-use Rattle.bin_section.proofs.Ranges.{SidesInRange}
+use Rattle.bin_section.proofs.Ranges.{range→small}
 use Rattle.target_bin.proofs.Parts.{length-freeOf, getD-freeOf}
 use Rattle.grouped_rects_to_place.specs.declared.rect_to_place.RectToPlace.{RectToPlace}
 use Rattle.grouped_rects_to_place.specs.Rect.{rectAt, rectCount}
-use Rattle.grouped_rects_to_place.specs.Checks.{badRect}
 use Rattle.grouped_rects_to_place.specs.Groups.{groupsOf}
-use Rattle.packing_rules.specs.Order.{triedBefore, trialOrder}
+use Rattle.packing_rules.specs.Order.{trialOrder}
 use Rattle.packing_rules.specs.Seats.{Seat, unplaced}
 use Rattle.rectangle_pack.specs.Records.{placementsOf}
-use Rattle.packing_rules.specs.Packing.{state, Ended, noRoom, start, packing}
+use Rattle.packing_rules.specs.Packing.{state, Ended, start, packing}
 use Rattle.rectangle_pack.specs.Pack.{rectChecks, packChecks, binsWith, PackOutcome, packOutcome, written, packOf}
-use Rattle.rectangle_pack.proofs.Checked.{no-bad, passed}
+use Rattle.rectangle_pack.proofs.Checked.{no-bad, none-full, passed}
 use Rattle.rectangle_pack.proofs.Ending.{pack-refused, all-pass, pack-done}
+use Rattle.packing_rules.proofs.Boxes.{range→sided}
 use Rattle.packing_rules.proofs.Room.{never-overflows}
+use Rattle.packing_rules.proofs.Seating.{groups-wait}
+use Rattle.packing_rules.proofs.TrialOrders.{trial-below}
 use Rattle.custody.specs.Ledger.{newBoxes, places, afterPack}
 use Rattle.custody.specs.Run.{Hall, hallOf, packed, SameChambers, placedAt}
 use Rattle.custody.proofs.Between.{Good, good-ledger, same-chambers, one-index}
+use Rattle.grouped_rects_to_place.proofs.Checking.{rects-range}
 use Rattle.grouped_rects_to_place.proofs.Sizes.{groups-disjoint}
-use Rattle.custody.proofs.Groups.{groups-distinct, groups-below}
 use Rattle.custody.proofs.Ledgers.{new-total}
 use Rattle.custody.proofs.Packs.{Conserved, Finished, start-conserved, groups-conserved}
-use Rattle.custody.proofs.Placements.{Sided, each-inside, inside-each}
-use Rattle.custody.proofs.Seating.{seatTotal, Waiting}
+use Rattle.custody.proofs.Seating.{seatTotal}
 use Rattle.lists.proofs.Totals.{total, total-append}
-use Rattle.custody.proofs.Totals.{held-total, strays, all-inside}
+use Rattle.custody.proofs.Totals.{strays, all-inside}
 use Rattle.custody.proofs.Written.{written-count, written-at, written-free, written-sound}
-
--- ---- what the checks leave
-
-side-some : (side : ℕ) → sideOk side ≡ true → 0 < side
-unfolding sideOk
-side-some side t = ltb-true 0 side (and-first (ltb 0 side) (leb side 65535) t)
-
-sides-some : (whd : WidthHeightDepth) → sidesOk whd ≡ true → Sided (record { whd = whd })
-sides-some whd t =
-    let a = sideOk (whd .width) in
-    let b = sideOk (whd .height) in
-    let d = sideOk (whd .depth) in
-    let rest : (b && d) ≡ true = and-second a (b && d) t in
-    record { wide = side-some _ (and-first a (b && d) t); tall = side-some _ (and-first b d rest); deep = side-some _ (and-second b d rest) }
-
-rect-sided : (r : ℕ → RectToPlace) (n : ℕ) → None n (badRect r) → (i : ℕ) → i < n → Sided (record { whd = r i .whd })
-unfolding badRect
-rect-sided r n p i h = sides-some (r i .whd) (not-false (sidesOk (r i .whd)) (p .at i h))
-
-chamber-small : (whd : WidthHeightDepth) → SidesInRange whd → Small whd
-chamber-small whd p = record { width-small = p .width-ok .most; height-small = p .height-ok .most; depth-small = p .depth-ok .most }
-
-not-full : (chambers : List ℕ) (n k : ℕ) → chamberAt chambers k .count + 2 * n ≤ 128 → noRoom chambers n k ≡ false
-unfolding noRoom
-not-full chambers n k h = le-ltb 128 (chamberAt chambers k .count + 2 * n) h
-
-order-low : (chambers : List ℕ) → Each (λ k. k < chamberCount chambers) (trialOrder chambers)
-unfolding trialOrder
-order-low chambers = sort-each (triedBefore chambers) (each-tab (chamberCount chambers) (λ i. i) (λ i h. h))
-
-all-waiting : (n : ℕ) {groups : List (List ℕ)} → Each (Each (λ i. i < n)) groups → Each (Each (Waiting n (replicate n unplaced))) groups
-all-waiting n gs = each-map (λ g is. each-map (λ i h. record { below = h; empty = getD-replicate n i unplaced unplaced h }) is) gs
 
 module _ (f : Hall) (good : Good f) (rects placements : List ℕ) where
   abbrev c : List ℕ
@@ -142,26 +107,16 @@ module _ (f : Hall) (good : Good f) (rects placements : List ℕ) where
   -- ---- past the checks
 
   module _ (pass : AllPass (packChecks c s rects placements)) where
-    started : Conserved m n ids whds r (freeOf c s) (state (freeOf c s) (replicate n unplaced))
-    started =
-        start-conserved m n ids whds r (freeOf c s) index small sided (length-freeOf c s)
-        (λ k h. rw (getD-freeOf c s k [] h) (inside-each (whds k) (freeAt c s k) (inside-second (whds k) (placedAt f k) (freeAt c s k) (good .whole k h .inside))))
-      where
-        index : (j k : ℕ) → j < m → k < m → ids j ≡ ids k → j ≡ k
-        index = one-index c s (good .sound-tables)
-
-        small : (k : ℕ) → k < m → Small (whds k)
-        small k h = chamber-small (whds k) (good .sound-tables .shapes-ok .sides k h)
-
-        sided : (i : ℕ) → i < n → Sided (record { whd = r i .whd })
-        sided = rect-sided r n (no-bad c s rects placements pass)
-
-    finished : Finished m n ids whds r (freeOf c s) (one-index c s (good .sound-tables)) (λ k h. chamber-small (whds k) (good .sound-tables .shapes-ok .sides k h)) (rect-sided r n (no-bad c s rects placements pass)) (packing c s rects)
+    finished : Finished m n ids whds r (freeOf c s) (packing c s rects)
     unfolding packing start
     finished =
-        groups-conserved m n ids whds r (freeOf c s) (one-index c s (good .sound-tables)) (λ k h. chamber-small (whds k) (good .sound-tables .shapes-ok .sides k h)) (rect-sided r n (no-bad c s rects placements pass))
-        (trialOrder c) (groupsOf n r) (state (freeOf c s) (replicate n unplaced)) (order-low c) started
-        (record { waiting = all-waiting n (groups-below r n); distinct = groups-distinct r n; apart = groups-disjoint n r })
+        groups-conserved m n ids whds r (freeOf c s) (one-index c s (good .sound-tables))
+        (λ k h. range→small (whds k) (good .sound-tables .shapes-ok .sides k h))
+        (λ i h. range→sided (r i .whd) (rects-range r n (no-bad c s rects placements pass) i h))
+        (trialOrder c) (trial-below c) (groupsOf n r) (state (freeOf c s) (replicate n unplaced))
+        (start-conserved m n ids whds r (freeOf c s) (length-freeOf c s)
+        (λ k h. rw (getD-freeOf c s k [] h) (inside-each (whds k) (freeAt c s k) (inside-second (whds k) (placedAt f k) (freeAt c s k) (good .whole k h .inside)))))
+        (groups-wait n r) (groups-disjoint n r)
 
     abbrev e : Ended
     e = packing c s rects
@@ -176,10 +131,7 @@ module _ (f : Hall) (good : Good f) (rects placements : List ℕ) where
     k₀ = finished .conserved
 
     few : (k : ℕ) → k < m → length (getD frees k []) ≤ 128
-    few k h = never-overflows c s rects (passed c s rects placements pass .rects-good .few) room k
-      where
-        room : None m (noRoom c n)
-        room = record { at = λ j b. not-full c n j (passed c s rects placements pass .ready .room j b) }
+    few k h = never-overflows c s rects (passed c s rects placements pass .rects-good .few) (none-full c s rects placements pass) k
 
     new-weight : (w : BinSection → ℕ) (k : ℕ) → total w (newBoxes rects (placementsOf seats) (ids k)) ≡ seatTotal w r n (ids k) seats
     new-weight w k = new-total w rects (ids k) seats (k₀ .seats-long)
@@ -192,15 +144,14 @@ module _ (f : Hall) (good : Good f) (rects placements : List ℕ) where
         whole-same (whds k) (old ++ freeAt c s k) ((old ++ fresh) ++ getD frees k []) w
         (inside-both (whds k) (old ++ fresh) (getD frees k [])
         (inside-both (whds k) old fresh (inside-first (whds k) old (freeAt c s k) (w .inside))
-        (each-inside (whds k) fresh (all-inside (whds k) fresh (new-weight (strays (whds k)) k ∙ k₀ .placed-in k h))))
-        (each-inside (whds k) (getD frees k []) (k₀ .free-in k h)))
+        (each-inside (whds k) (all-inside (whds k) fresh (new-weight (strays (whds k)) k ∙ k₀ .placed-in k h))))
+        (each-inside (whds k) (k₀ .free-in k h)))
         (λ cx cy cz b.
         omega (
           arith,
           total-append (λ b. has b cx cy cz) (old ++ fresh) (getD frees k []),
           total-append (λ b. has b cx cy cz) old fresh,
           total-append (λ b. has b cx cy cz) old (freeAt c s k),
-          held-total fresh cx cy cz,
           new-weight (λ b. has b cx cy cz) k,
           k₀ .cells k h cx cy cz,
           ap (λ (l : List BinSection). held l cx cy cz) (getD-freeOf c s k [] h),

@@ -1,5 +1,5 @@
 -- What was free before a placement is free after it or lies in the rectangle placed: for one rectangle, and for a group in one chamber.
-use Prim.Native.Nat.{ℕ, suc, _+_, _<_}
+use Prim.Native.Nat.{ℕ, _+_}
 use mathlib.Core.Path.{_≡_, sym, ap, subst}
 use mathlib.Core.List.{List, [], _∷_}
 use native.Mathlib.Omega.{arith}
@@ -10,9 +10,9 @@ use Rattle.lists.proofs.Sorts.{each-append, each-at}
 use Rattle.bin_section.specs.declared.width_height_depth.WidthHeightDepth.{WidthHeightDepth}
 use Rattle.bin_section.specs.declared.rect_to_insert.RectToInsert.{RectToInsert}
 use Rattle.bin_section.specs.declared.section.BinSection.{BinSection}
-use Rattle.bin_section.specs.Sides.{Small}
+use Rattle.bin_section.specs.Leaning.{Small}
 use Rattle.bin_section.specs.Section.{section, zeroSection}
-use Rattle.cells.specs.Whole.{Inside, AllInside}
+use Rattle.cells.specs.Whole.{Inside}
 use Rattle.cells.proofs.Grid.{has}
 use Rattle.lists.proofs.Totals.{total, total-append, total-removed}
 use Rattle.cells.proofs.Held.{held}
@@ -24,35 +24,19 @@ use Rattle.try_place.specs.Try.{fitOf, Fits}
 use Rattle.packing_rules.specs.Appended.{appendedOf}
 use Rattle.try_place.proofs.Choosing.{chosen-below}
 use Rattle.packing_rules.specs.Rules.{placed, placeOne}
-use Rattle.packing_rules.proofs.Left.{one-left, inside-reachable, inside-passes}
+use Rattle.packing_rules.proofs.Left.{Sided, one-left, inside-reachable, inside-passes}
 use Rattle.packing_rules.proofs.Placings.{PlacedAt, placed-at, Placings, no-more, then}
 use Rattle.try_place.proofs.Trying.{fit-is}
 use Rattle.custody.proofs.Cut.{cornerBox, row-cut, held-appended}
-
--- a rectangle has no zero side
-pub record Sided (r : RectToInsert) : Type 0 where
-  pub wide : 0 < r .whd .width
-  pub tall : 0 < r .whd .height
-  pub deep : 0 < r .whd .depth
 
 -- the box of a location, with the rectangle's sides
 abbrev pub boxAtLocation : PackedLocation → WidthHeightDepth → BinSection
 boxAtLocation l whd = section (l .x) (l .y) (l .z) whd
 
--- ---- lists of boxes that lie inside
-
-module _ (whd : WidthHeightDepth) where
-  pub each-inside : (bs : List BinSection) → Each (Inside whd) bs → AllInside whd bs
-  each-inside bs p = record { at = λ i h. each-at p i zeroSection h }
-
-  pub inside-each : (bs : List BinSection) → AllInside whd bs → Each (Inside whd) bs
-  inside-each [] p = none
-  inside-each (b ∷ bs) p = also (p .at 0 (omega arith)) (inside-each bs (record { at = λ i h. p .at (suc i) (omega arith) }))
-
 -- ---- one rectangle
 
--- what one placement leaves
-pub record Kept (whd : WidthHeightDepth) (free : List BinSection) (boxes free′ : List BinSection) : Type 0 where
+-- each cell of the free sections is in a box placed or free still, and all of these lie inside
+pub record CellsKept (whd : WidthHeightDepth) (free : List BinSection) (boxes free′ : List BinSection) : Type 0 where
   pub cells : (cx cy cz : ℕ) → held boxes cx cy cz + held free′ cx cy cz ≡ held free cx cy cz
   pub placed-in : Each (Inside whd) boxes
   pub free-in : Each (Inside whd) free′
@@ -61,13 +45,13 @@ module _ (whd : WidthHeightDepth) (small : Small whd) where
   pub one-kept :
       (free : List BinSection) (r : RectToInsert) (l : PackedLocation) (free′ : List BinSection)
       → Each (Inside whd) free
-      → Sided r
+      → Sided (r .whd)
       → placeOne free r ≡ placed l free′
-      → Kept whd free (boxAtLocation l (r .whd) ∷ []) free′
+      → CellsKept whd free (boxAtLocation l (r .whd) ∷ []) free′
   unfolding total
   one-kept free r l free′ ins sided e = go (placed-at free r l free′ e)
     where
-      go : (i : ℕ) × PlacedAt free r l free′ (length free) i → Kept whd free (boxAtLocation l (r .whd) ∷ []) free′
+      go : (i : ℕ) × PlacedAt free r l free′ (length free) i → CellsKept whd free (boxAtLocation l (r .whd) ∷ []) free′
       go (i, p) =
           let s : BinSection = getD free i zeroSection in
           let q : Inside whd s = each-at ins i zeroSection (p .within) in
@@ -103,9 +87,9 @@ module _ (whd : WidthHeightDepth) (small : Small whd) where
   pub group-kept :
       {free free′ : List BinSection} {rs : List RectToInsert} {ls : List PackedLocation}
       → Each (Inside whd) free
-      → Each Sided rs
+      → Each (λ r. Sided (r .whd)) rs
       → Placings free rs ls free′
-      → Kept whd free (boxesAt rs ls) free′
+      → CellsKept whd free (boxesAt rs ls) free′
   unfolding boxesAt total
   group-kept ins sided (no-more {free}) =
       record { cells = λ cx cy cz. omega arith; placed-in = none; free-in = ins }

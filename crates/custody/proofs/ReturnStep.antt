@@ -1,6 +1,7 @@
 -- A return leaves every chamber whole: an accepted box moves from the placed ones to the free ones, a refused one changes nothing.
 use Prim.Native.Nat.{ℕ, _+_, _<_}
 use mathlib.Core.Path.{_≡_, refl, sym, ap, _∙_, subst}
+use mathlib.Core.Logic.{⊎-elim}
 use mathlib.Core.List.{List, [], _∷_, _++_}
 use mathlib.Core.Bool.{_&&_}
 use native.Mathlib.Decide.{ℕ-discrete}
@@ -11,6 +12,7 @@ use lib.ListN.{length, getD, set, length-set}
 use lib.Seq.{getD-set-same, getD-set-other}
 use Rattle.lists.specs.Sort.{Each, also}
 use Rattle.lists.proofs.Flags.{cond-yes, cond-no, and-both, and-no-first, and-no-second}
+use Rattle.lists.proofs.Tabs.{set-cases}
 use Rattle.bin_section.specs.declared.section.BinSection.{BinSection}
 use Rattle.bin_section.specs.declared.width_height_depth.WidthHeightDepth.{WidthHeightDepth}
 use Rattle.bin_section.specs.Sides.{sides}
@@ -18,7 +20,7 @@ use Rattle.replies.specs.Replies.{reply}
 use Rattle.cells.specs.Whole.{Inside, Whole}
 use Rattle.cells.proofs.Grid.{has}
 use Rattle.cells.proofs.Held.{whole-same}
-use Rattle.cells.proofs.Insides.{inside-first, inside-second, inside-both, inside-more, inside-none}
+use Rattle.cells.proofs.Insides.{each-inside, inside-each, inside-first, inside-second, inside-both, inside-more, inside-none}
 use Rattle.target_bin.specs.declared.chamber.TargetBin.{TargetBin}
 use Rattle.target_bin.specs.Chambers.{bin, chamberAt, chamberCount, chambersOf, chamberOf}
 use Rattle.target_bin.specs.Store.{freeAt, freeOf}
@@ -29,9 +31,8 @@ use Rattle.target_bin.proofs.Parts.{length-freeOf, getD-freeOf}
 use Rattle.target_bin.proofs.ReturnModel.{Accepted, return-done, return-refusal, return-chambers, return-free, return-sound}
 use Rattle.custody.specs.Ledger.{In, first, later, takenOut, afterReturn}
 use Rattle.custody.specs.Run.{Hall, hallOf, takenBack, SameChambers}
-use Rattle.custody.proofs.Placements.{each-inside, inside-each}
 use Rattle.lists.proofs.Totals.{total, total-append}
-use Rattle.custody.proofs.Totals.{held-total, strays, none-strays, all-inside}
+use Rattle.custody.proofs.Totals.{strays, none-strays, all-inside}
 use Rattle.custody.proofs.Ledgers.{taken-total}
 use Rattle.custody.proofs.Between.{Good, good-ledger, same-chambers, one-index}
 
@@ -57,31 +58,26 @@ module _ (f : Hall) (good : Good f) (id : ℕ) (box : BinSection) (there : retur
     d₀ : TargetBin
     d₀ = bin 0 (sides 0 0 0) 0
 
+    -- the chamber with its count one more
+    abbrev one-more : TargetBin
+    one-more = bin (chamberAt c at .id) (chamberAt c at .whd) (chamberAt c at .count + 1)
+
     many : chamberCount (o .chambers) ≡ chamberCount c
     many =
-        sym (length-chambersOf (o .chambers))
-        ∙ ap length (return-chambers c s id box a)
-        ∙ length-set (chambersOf c) at (bin (chamberAt c at .id) (chamberAt c at .whd) (chamberAt c at .count + 1))
-        ∙ length-chambersOf c
+        sym (length-chambersOf (o .chambers)) ∙ ap length (return-chambers c s id box a) ∙ length-set (chambersOf c) at one-more ∙ length-chambersOf c
 
-    same-bin : (j : ℕ) → j < chamberCount c → Dec (j ≡ at) → (chamberAt (o .chambers) j .id ≡ chamberAt c j .id) × (chamberAt (o .chambers) j .whd ≡ chamberAt c j .whd)
-    same-bin j h q =
-        let read : chamberAt (o .chambers) j ≡ getD (set (chambersOf c) at (bin (chamberAt c at .id) (chamberAt c at .whd) (chamberAt c at .count + 1))) j d₀ =
+    same-bin : (j : ℕ) → j < chamberCount c → (chamberAt (o .chambers) j .id ≡ chamberAt c j .id) × (chamberAt (o .chambers) j .whd ≡ chamberAt c j .whd)
+    same-bin j h =
+        let read : chamberAt (o .chambers) j ≡ getD (set (chambersOf c) at one-more) j d₀ =
         sym (getD-chambersOf (o .chambers) j d₀ (omega (arith, many))) ∙ ap (λ (l : List TargetBin). getD l j d₀) (return-chambers c s id box a) in
-        go q read
-      where
-        go : Dec (j ≡ at) → chamberAt (o .chambers) j ≡ getD (set (chambersOf c) at (bin (chamberAt c at .id) (chamberAt c at .whd) (chamberAt c at .count + 1))) j d₀ → (chamberAt (o .chambers) j .id ≡ chamberAt c j .id) × (chamberAt (o .chambers) j .whd ≡ chamberAt c j .whd)
-        go (yes e) read =
-            let set-here : getD (set (chambersOf c) at (bin (chamberAt c at .id) (chamberAt c at .whd) (chamberAt c at .count + 1))) j d₀ ≡ bin (chamberAt c at .id) (chamberAt c at .whd) (chamberAt c at .count + 1) =
-            ap (λ (m : ℕ). getD (set (chambersOf c) at (bin (chamberAt c at .id) (chamberAt c at .whd) (chamberAt c at .count + 1))) m d₀) e
-            ∙ getD-set-same (chambersOf c) at (bin (chamberAt c at .id) (chamberAt c at .whd) (chamberAt c at .count + 1)) d₀ (omega (arith, length-chambersOf c, a .known)) in (
-              ap (λ (b : TargetBin). b .id) (read ∙ set-here) ∙ ap (λ (m : ℕ). chamberAt c m .id) (sym e),
-              ap (λ (b : TargetBin). b .whd) (read ∙ set-here) ∙ ap (λ (m : ℕ). chamberAt c m .whd) (sym e),
-            )
-        go (no ne) read =
-            let p : chamberAt (o .chambers) j ≡ chamberAt c j =
-            read ∙ getD-set-other (chambersOf c) at j (bin (chamberAt c at .id) (chamberAt c at .whd) (chamberAt c at .count + 1)) d₀ ne ∙ getD-chambersOf c j d₀ h in
-            (ap (λ (b : TargetBin). b .id) p, ap (λ (b : TargetBin). b .whd) p)
+        ⊎-elim
+        (λ u.
+        let p : chamberAt (o .chambers) j ≡ chamberAt c j = read ∙ u ∙ getD-chambersOf c j d₀ h in
+        (ap (λ (b : TargetBin). b .id) p, ap (λ (b : TargetBin). b .whd) p))
+        (λ u.
+        let p : chamberAt (o .chambers) j ≡ one-more = read ∙ u .1 in
+        rw (u .0) (rw (u .0) at (ap (λ (b : TargetBin). b .id) p), rw (u .0) at (ap (λ (b : TargetBin). b .whd) p)))
+        (set-cases (chambersOf c) at one-more j d₀)
 
     free-read : (j : ℕ) → j < chamberCount c → freeAt (o .chambers) (o .store) j ≡ getD (set (freeOf c s) at (freeAt c s at ++ (box ∷ []))) j []
     free-read j h =
@@ -103,7 +99,7 @@ module _ (f : Hall) (good : Good f) (id : ℕ) (box : BinSection) (there : retur
         let rest : Each (Inside whd) (takenOut box placed) = all-inside whd (takenOut box placed) (omega arith) in
         let mine : Inside whd box = in-list whd box p (inside-each whd placed (inside-first whd placed free all)) in
         whole-same whd (placed ++ free) (takenOut box placed ++ (free ++ (box ∷ []))) w
-        (inside-both whd (takenOut box placed) (free ++ (box ∷ [])) (each-inside whd (takenOut box placed) rest)
+        (inside-both whd (takenOut box placed) (free ++ (box ∷ [])) (each-inside whd rest)
         (inside-both whd free (box ∷ []) (inside-second whd placed free all) (inside-more whd box [] mine (inside-none whd))))
         (λ cx cy cz h.
         omega (
@@ -111,8 +107,6 @@ module _ (f : Hall) (good : Good f) (id : ℕ) (box : BinSection) (there : retur
           total-append (λ b. has b cx cy cz) (takenOut box placed) (free ++ (box ∷ [])),
           total-append (λ b. has b cx cy cz) free (box ∷ []),
           total-append (λ b. has b cx cy cz) placed free,
-          held-total placed cx cy cz,
-          held-total (takenOut box placed) cx cy cz,
           taken-total (λ b. has b cx cy cz) box p,
         ))
 
@@ -143,12 +137,12 @@ module _ (f : Hall) (good : Good f) (id : ℕ) (box : BinSection) (there : retur
           sound-tables = return-sound c s id box a;
           whole = λ j h.
               let l : j < chamberCount c = omega (arith, many) in
-              let b = same-bin j l (ℕ-discrete j at) in
+              let b = same-bin j l in
               rw (b .0, b .1) (whole-at j l (ℕ-discrete j at));
         }
 
     accepted-same : SameChambers c (o .chambers)
-    accepted-same = record { many = many; ids = λ j h. same-bin j h (ℕ-discrete j at) .0; sides = λ j h. same-bin j h (ℕ-discrete j at) .1 }
+    accepted-same = record { many = many; ids = λ j h. same-bin j h .0; sides = λ j h. same-bin j h .1 }
 
   -- a refused return leaves tables and ledger as they were
   refused-ledger : (o .reply .number ≡ 0 → ⊥) → (j : ℕ) → afterReturn (o .reply) id box (f .ledger) j ≡ f .ledger j

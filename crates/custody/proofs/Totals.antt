@@ -13,15 +13,8 @@ use Rattle.lists.proofs.Totals.{total, total-map, total-picked}
 use Rattle.bin_section.specs.declared.width_height_depth.WidthHeightDepth.{WidthHeightDepth}
 use Rattle.bin_section.specs.declared.section.BinSection.{BinSection}
 use Rattle.cells.specs.Whole.{Inside}
-use Rattle.cells.proofs.Grid.{has}
-use Rattle.cells.proofs.Held.{held}
 use Rattle.bin_section.specs.Inside.{outside}
 use Rattle.bin_section.proofs.Bounding.{inside→not-outside, not-outside→inside}
-
-pub held-total : (bs : List BinSection) (cx cy cz : ℕ) → held bs cx cy cz ≡ total (λ b. has b cx cy cz) bs
-held-total bs cx cy cz = refl
-
--- ---- boxes that do not lie inside
 
 -- 1 if the box does not lie inside, else 0
 unfoldable pub strays : WidthHeightDepth → BinSection → ℕ

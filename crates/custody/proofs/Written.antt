@@ -4,8 +4,6 @@ use mathlib.Core.Path.{_≡_, sym, ap, _∙_}
 use mathlib.Core.List.{List, []}
 use native.Mathlib.Omega.{arith}
 use lib.ListN.{length, getD}
-use lib.Seq.{ext-getD}
-use Rattle.lists.specs.Tab.{tab}
 use Rattle.lists.specs.Sort.{Each}
 use Rattle.lists.proofs.Sorts.{each-at}
 use Rattle.lists.proofs.Tabs.{length-tab, getD-tab}
@@ -13,7 +11,7 @@ use Rattle.bin_section.specs.declared.section.BinSection.{BinSection}
 use Rattle.bin_section.specs.Section.{zeroSection, sectionAt}
 use Rattle.bin_section.specs.Sides.{sides}
 use Rattle.cells.specs.Whole.{Inside}
-use Rattle.words.proofs.Records.{length-joined-tab}
+use Rattle.words.proofs.Records.{length-joined}
 use Rattle.sections.proofs.Reading.{getD-sections}
 use Rattle.target_bin.specs.declared.chamber.TargetBin.{TargetBin}
 use Rattle.target_bin.specs.Chambers.{bin, chamberAt, chamberCount, tableOf}
@@ -57,15 +55,9 @@ module _
       ∙ ap (λ (l : List (List BinSection)). getD l k [])
       (store-decoded table frees (written-count ∙ sym many) written-counted (λ i l. count-at i (omega arith)))
 
-  frees-tab : frees ≡ tab (chamberCount chambers) (λ k. getD frees k [])
-  frees-tab =
-      ext-getD [] frees (tab (chamberCount chambers) (λ k. getD frees k [])) (many ∙ sym (length-tab (chamberCount chambers) (λ k. getD frees k [])))
-      (λ i h. sym (getD-tab (chamberCount chambers) (λ k. getD frees k []) i [] (omega arith)))
-
   store-long : length (storeOf frees) ≡ chamberCount chambers * 768
   store-long =
-      ap (λ (l : List (List BinSection)). length (storeOf l)) frees-tab
-      ∙ length-joined-tab partOf 768 (chamberCount chambers) (λ k. getD frees k []) (λ i h. length-partOf (getD frees i []) (few i h))
+      length-joined partOf 768 frees [] (λ i h. length-partOf (getD frees i []) (few i (omega (arith, many)))) ∙ ap (λ (n : ℕ). n * 768) many
 
   written-section : (k j : ℕ) → k < chamberCount chambers → j < length (getD frees k []) → sectionAt (partAt (storeOf frees) k) j ≡ getD (getD frees k []) j zeroSection
   written-section k j h l =

@@ -11,6 +11,7 @@ use Rattle.bin_section.specs.Section.{section}
 use Rattle.words.specs.Words.{joined}
 use Rattle.sections.specs.Sections.{allWords}
 use Rattle.target_bin.specs.Store.{storeOf}
+use Rattle.placement.specs.Placements.{placementWidth}
 use Rattle.target_bin.specs.Outcome.{outcome}
 use Rattle.rectangle_pack.specs.Pack.{packOutcome}
 use Rattle.examples.specs.Shown.{LentTables, freshShown}
@@ -103,7 +104,7 @@ abbrev pub allOf : List (List ℕ) → List ℕ
 allOf = joined (λ (words : List ℕ). words)
 
 abbrev pub lentPlacements : List (List ℕ) → List ℕ
-lentPlacements coils = replicate (length coils * 5) 9
+lentPlacements coils = replicate (length coils * placementWidth) 9
 
 -- ---- a try of sides in a section
 
@@ -113,7 +114,7 @@ try whd s = tries (record { whd = whd }) s
 abbrev pub split_ties_volumes_appended_ : ℕ → ℕ → List ℕ → List BinSection → Answer
 split s ties t volumes vs appended bs = ofTry (record { number = 0; split = s; ties = t; volumes = vs; appended = bs })
 
--- "a refused try returns a zero location and zero sections"
+-- "a refused try returns .. zero sections": their volumes, and none to append
 abbrev pub refusedWith : ℕ → Answer
 refusedWith n = ofTry (record { number = n; split = 0; ties = 0; volumes = 0 ∷ 0 ∷ 0 ∷ []; appended = [] })
 

@@ -1,3 +1,4 @@
+pub mod Leaning
 pub mod Lowest
 pub mod Pick
 pub mod Sort

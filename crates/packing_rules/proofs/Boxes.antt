@@ -16,11 +16,11 @@ use Rattle.bin_section.specs.Inside.{Inside}
 use Rattle.bin_section.proofs.Ranges.{SidesInRange, range→small}
 use Rattle.sections.specs.Sections.{sections}
 use Rattle.try_place.specs.Leaning.{Reachable}
-use Rattle.try_place.proofs.Remaining.{Within}
+use Rattle.try_place.proofs.Remaining.{BoxWithin}
 use Rattle.target_bin.specs.Chambers.{chamberAt, chamberCount}
 use Rattle.target_bin.specs.Store.{partAt, freeAt}
 use Rattle.target_bin.proofs.Parts.{getD-freeOf}
-use Rattle.target_bin.proofs.Passing.{ShapesSound, AllInside}
+use Rattle.target_bin.proofs.Passing.{ShapesSound, SectionsInside}
 use Rattle.grouped_rects_to_place.specs.declared.rect_to_place.RectToPlace.{RectToPlace}
 use Rattle.grouped_rects_to_place.specs.Checks.{badRect}
 use Rattle.grouped_rects_to_place.specs.Groups.{groupsOf}
@@ -48,7 +48,7 @@ module _
     (ids : ℕ → ℕ)
     (P : ℕ → BinSection → Type 0)
     (reach : (k : ℕ) → k < n → (s : BinSection) → P k s → Reachable s)
-    (passes : (k : ℕ) (s b : BinSection) → P k s → Within s b → Sided (b .whd) → P k b)
+    (passes : (k : ℕ) (s b : BinSection) → P k s → BoxWithin s b → Sided (b .whd) → P k b)
     (r : ℕ → RectToPlace)
     (order : List ℕ)
     (below : Each (λ k. k < n) order)
@@ -86,9 +86,9 @@ pub record LentBox (chambers store : List ℕ) (k : ℕ) (b : BinSection) : Type
   pub inside : Inside (chamberAt chambers k .whd) b
   pub section-index : ℕ
   pub counted : section-index < chamberAt chambers k .count
-  pub in-section : Within (sectionAt (partAt store k) section-index) b
+  pub in-section : BoxWithin (sectionAt (partAt store k) section-index) b
 
-module _ (chambers store rects : List ℕ) (shapes : ShapesSound chambers) (all-inside : AllInside chambers store) (good : None (rectCount rects) (badRect (rectAt rects))) where
+module _ (chambers store rects : List ℕ) (shapes : ShapesSound chambers) (sections-inside : SectionsInside chambers store) (good : None (rectCount rects) (badRect (rectAt rects))) where
   -- every placed box
   pub boxes-lent : BoxesAre (chamberCount chambers) (λ k. chamberAt chambers k .id) (LentBox chambers store) (packing chambers store rects .after .seats)
   unfolding packing start freeAt sections
@@ -109,7 +109,7 @@ module _ (chambers store rects : List ℕ) (shapes : ShapesSound chambers) (all-
         frees-are = λ k h.
             rw (getD-freeOf chambers store k [] h)
             (each-tab (chamberAt chambers k .count) (sectionAt (partAt store k))
-            (λ j l. record { inside = all-inside .inside k j h l; section-index = j; counted = l; in-section = omega arith }));
+            (λ j l. record { inside = sections-inside .inside k j h l; section-index = j; counted = l; in-section = omega arith }));
         boxes-are = record { at = λ i id l e. let z : _≡_ {A = ℕ} 0 1 = cc (empty-seat (rectCount rects) i) in absurd (omega arith) };
       })
       .boxes-are

@@ -16,14 +16,15 @@ use Rattle.bin_section.specs.declared.section.BinSection.{BinSection}
 use Rattle.bin_section.specs.declared.rect_to_insert.RectToInsert.{RectToInsert}
 use Rattle.bin_section.specs.declared.width_height_depth.WidthHeightDepth.{WidthHeightDepth}
 use Rattle.bin_section.specs.Section.{zeroSection}
-use Rattle.bin_section.specs.Sides.{volumeOf, Small}
+use Rattle.bin_section.specs.Sides.{volumeOf}
+use Rattle.bin_section.specs.Leaning.{Small}
 use Rattle.bin_section.specs.Inside.{Inside}
 use Rattle.try_place.specs.declared.packed_location.PackedLocation.{PackedLocation}
 use Rattle.try_place.specs.declared.TryAnswer.the-variants.{Placed}
 use Rattle.try_place.specs.declared.Tried.{Tried}
 use Rattle.try_place.specs.Try.{fitOf}
 use Rattle.try_place.specs.Leaning.{Reachable}
-use Rattle.try_place.proofs.Remaining.{Within, placed-within, placed-three}
+use Rattle.try_place.proofs.Remaining.{BoxWithin, placed-within, placed-three}
 use Rattle.try_place.proofs.Trying.{fit-is}
 use Rattle.packing_rules.specs.Appended.{larger, keptOne, kept, appendedOf}
 use Rattle.packing_rules.specs.Rules.{placed, placeOne}
@@ -63,13 +64,13 @@ module _ {P : BinSection → Type 0} where
   appended-sided t p = kept-sided (sort-each larger p)
 
 -- what remains beside a rectangle in the section that takes it
-parts-within : (s : BinSection) (r : RectToInsert) → Reachable s → fitOf s r .answer ≡ Placed (locationIn s r) → Each (Within s) (fitOf s r .sections)
+parts-within : (s : BinSection) (r : RectToInsert) → Reachable s → fitOf s r .answer ≡ Placed (locationIn s r) → Each (BoxWithin s) (fitOf s r .sections)
 parts-within s r p e =
     let w = placed-within s r (locationIn s r) p e in
     rw (three zeroSection (fitOf s r .sections) (placed-three s r (locationIn s r) p e)) (also (w .first) (also (w .second) (also (w .third) none)))
 
 -- a fact of sections that passes on to each box within them that has no zero side
-module _ (P : BinSection → Type 0) (reach : (s : BinSection) → P s → Reachable s) (passes : (s b : BinSection) → P s → Within s b → Sided (b .whd) → P b) where
+module _ (P : BinSection → Type 0) (reach : (s : BinSection) → P s → Reachable s) (passes : (s b : BinSection) → P s → BoxWithin s b → Sided (b .whd) → P b) where
   module _ (free : List BinSection) (r : RectToInsert) (l : PackedLocation) (free′ : List BinSection) (e : placeOne free r ≡ placed l free′) (ps : Each P free) where
     -- it holds of all that is left free, and of the box placed
     pub one-left : Each P free′
@@ -104,5 +105,5 @@ module _ (whd : WidthHeightDepth) where
   pub inside-reachable : Small whd → (s : BinSection) → Inside whd s → Reachable s
   inside-reachable small s p = omega arith
 
-  pub inside-passes : (s b : BinSection) → Inside whd s → Within s b → Sided (b .whd) → Inside whd b
+  pub inside-passes : (s b : BinSection) → Inside whd s → BoxWithin s b → Sided (b .whd) → Inside whd b
   inside-passes s b p w v = omega arith

@@ -17,7 +17,7 @@ use Rattle.packing_rules.specs.Seats.{Seat, unplaced, seated}
 use Rattle.packing_rules.specs.Packing.{State, trialIn, packGroups, start, packing}
 use Rattle.packing_rules.specs.Promises.{WholeOrNowhere, in-one, in-none}
 use Rattle.packing_rules.proofs.Placings.{group-long}
-use Rattle.packing_rules.proofs.Seats.{empty-seat, length-seated, Apart, seated-other, seated-all}
+use Rattle.packing_rules.proofs.Seats.{empty-seat, length-seated, ApartFrom, seated-other, seated-all}
 use Rattle.packing_rules.proofs.Turns.{given, by-turns}
 
 -- a group whose turn is yet to come
@@ -51,10 +51,10 @@ module _ (order : List ℕ) (ids : ℕ → ℕ) (r : ℕ → RectToPlace) where
   -- a seat of none of the groups stays as it is
   untouched :
       (i : ℕ) (groups : List (List ℕ)) (s : State)
-      → Each (Apart i) groups
+      → Each (ApartFrom i) groups
       → getD (packGroups order ids r groups s .after .seats) i unplaced ≡ getD (s .seats) i unplaced
   untouched i =
-      by-turns order ids r (λ groups s e. Each (Apart i) groups → getD (e .after .seats) i unplaced ≡ getD (s .seats) i unplaced)
+      by-turns order ids r (λ groups s e. Each (ApartFrom i) groups → getD (e .after .seats) i unplaced ≡ getD (s .seats) i unplaced)
       (λ s ps. refl)
       (λ g gs s q ps. refl)
       (λ g gs s t ls free q e rest ps. rest (each-tail ps) ∙ seated-other (ids (getD order t 0)) ls (s .seats) i (each-head ps))

@@ -35,10 +35,10 @@ seated-more id i (j ∷ is) l [] seats e = absurd (omega arith)
 seated-more id i (j ∷ is) l (m ∷ ls) seats e = seated-more id i is l ls (set seats j (seat id m)) (omega arith)
 
 -- every other seat stays as it is
-abbrev pub Apart : ℕ → List ℕ → Type 0
-Apart i g = Each (λ j. i ≡ j → ⊥) g
+abbrev pub ApartFrom : ℕ → List ℕ → Type 0
+ApartFrom i g = Each (λ j. i ≡ j → ⊥) g
 
-pub seated-other : (id : ℕ) {is : List ℕ} (ls : List PackedLocation) (seats : List Seat) (i : ℕ) → Apart i is → getD (seated id is ls seats) i unplaced ≡ getD seats i unplaced
+pub seated-other : (id : ℕ) {is : List ℕ} (ls : List PackedLocation) (seats : List Seat) (i : ℕ) → ApartFrom i is → getD (seated id is ls seats) i unplaced ≡ getD seats i unplaced
 unfolding seated
 seated-other id ls seats i none = refl
 seated-other id [] seats i (also p ps) = refl

@@ -15,7 +15,7 @@ use Rattle.try_place.proofs.Remaining.{placed-is}
 use Rattle.packing_rules.specs.Appended.{appendedOf}
 use Rattle.packing_rules.specs.Rules.{placed, placeOne}
 use Rattle.placing.specs.declared.place.Spot.the-variants.{At, Nowhere}
-use Rattle.placing.specs.Leaning.{Replaced, Reaching, PlacedIn}
+use Rattle.placing.specs.Leaning.{Replaced, Reaching, PlacedOne}
 use Rattle.placing.proofs.Finding.{Tried, tried-placed, tried-all}
 use Rattle.placing.proofs.Reaches.{still-reaching}
 
@@ -25,7 +25,7 @@ module _ (count : ℕ) (r : RectToInsert) (w : List ℕ) (reach : Reaching count
       → 0 < i
       → fitOf (sectionAt w (i - 1)) r .answer ≡ Placed l
       → Replaced count (i - 1) (appendedOf (placedOf (sectionAt w (i - 1)) r .sections)) n w w′
-      → PlacedIn count r (record { spot = At l; count = n }) w w′
+      → PlacedOne count r (record { spot = At l; count = n }) w w′
   placed-here w′ n l h a q =
       let is = placed-is (sectionAt w (i - 1)) r l (reach .at (i - 1) (omega (arith, done .most))) a in
       let e : placed l (sections w′ n) ≡ placeOne (sections w count) r =
@@ -39,5 +39,5 @@ module _ (count : ℕ) (r : RectToInsert) (w : List ℕ) (reach : Reaching count
         reaching = still-reaching count n r l w w′ reach e;
       }
 
-  pub placed-nowhere : i ≤ 0 → PlacedIn count r (record { spot = Nowhere; count = count }) w w
+  pub placed-nowhere : i ≤ 0 → PlacedOne count r (record { spot = Nowhere; count = count }) w w
   placed-nowhere h = record { answer = tried-all count r w i done h; room = omega arith; zeros = λ z. z; reaching = reach; none = λ z. (refl, refl) }

@@ -1,4 +1,4 @@
--- What the private functions lean on and leave. A reader of the rules needs none of it.
+-- What functions below the jobs lean on and leave. No job's contract cites it, and a reader of the rules needs none of it.
 use Prim.Native.Nat.{ℕ, _+_, _≤_, _<_}
 use mathlib.Core.Path.{_≡_}
 use mathlib.Core.List.{List, _++_}
@@ -9,7 +9,7 @@ use Rattle.sections.specs.Leaning.{ZeroPast}
 use Rattle.bin_section.specs.declared.rect_to_insert.RectToInsert.{RectToInsert}
 use Rattle.bin_section.specs.Section.{sectionAt}
 use Rattle.try_place.specs.Leaning.{Reachable}
-use Rattle.placing.specs.declared.place.Placed.{Placed}
+use Rattle.placing.specs.declared.place.PlacedRect.{PlacedRect}
 use Rattle.placing.specs.declared.place.Spot.{Spot}
 use Rattle.placing.specs.declared.place.Spot.the-variants.{At, Nowhere}
 use Rattle.packing_rules.specs.Rules.{One, nowhere, placed, placeOne}
@@ -37,7 +37,7 @@ oneOf (At l) free = placed l free
 oneOf Nowhere free = nowhere
 
 -- the answer and the sections afterwards are those of the rules; at most two sections more; where none fits, no word changes
-pub record PlacedIn (count : ℕ) (r : RectToInsert) (p : Placed) (w w′ : List ℕ) : Type 0 where
+pub record PlacedOne (count : ℕ) (r : RectToInsert) (p : PlacedRect) (w w′ : List ℕ) : Type 0 where
   pub answer : oneOf (p .spot) (sections w′ (p .count)) ≡ placeOne (sections w count) r
   pub room : p .count ≤ count + 2
   pub zeros : ZeroPast count w → ZeroPast (p .count) w′

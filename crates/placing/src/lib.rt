@@ -2,6 +2,6 @@
 mod add_new_sections;
 mod place;
 
-pub use place::Placed;
+pub use place::PlacedRect;
 pub use place::Spot;
 pub use place::place_rect;

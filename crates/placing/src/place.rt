@@ -6,7 +6,7 @@ ghost use Rattle.bin_section.specs.Section.{sectionAt};
 ghost use Rattle.try_place.specs.Try.{placedOf};
 ghost use Rattle.try_place.specs.Leaning.{Fitting};
 ghost use Rattle.packing_rules.specs.Appended.{appendedOf};
-ghost use Rattle.placing.specs.Leaning.{Replaced, PlacedIn, Reaching};
+ghost use Rattle.placing.specs.Leaning.{Replaced, PlacedOne, Reaching};
 use crate::add_new_sections::add_new_sections;
 use bin_section::BinSection;
 use bin_section::RectToInsert;
@@ -23,7 +23,7 @@ pub enum Spot {
 }
 
 // Where it went, and the number of free sections afterwards.
-pub struct Placed {
+pub struct PlacedRect {
     pub spot: Spot,
     pub count: usize,
 }
@@ -40,9 +40,9 @@ fn replace(words: &mut [u32], count: usize, i: usize, incoming: RectToInsert) ->
 }
 
 // "the free sections are tried from the last to the first, the first that fits is removed"
-pub fn place_rect(words: &mut [u32], count: usize, incoming: RectToInsert) -> Placed
+pub fn place_rect(words: &mut [u32], count: usize, incoming: RectToInsert) -> PlacedRect
     requires { ⌜ (count * 6 + 12 ≤ length (now words)) × Reaching count (now words) ⌝ }
-    ensures { λ p. ⌜ PlacedIn count incoming p (now (words .entry)) (now (words .exit)) ⌝ }
+    ensures { λ p. ⌜ PlacedOne count incoming p (now (words .entry)) (now (words .exit)) ⌝ }
 {
     let mut i = count;
     while 0 < i {
@@ -53,12 +53,12 @@ pub fn place_rect(words: &mut [u32], count: usize, incoming: RectToInsert) -> Pl
             continue;
         };
         let left = replace(words, count, i, incoming);
-        return Placed {
+        return PlacedRect {
             spot: Spot::At(location),
             count: left,
         };
     }
-    Placed {
+    PlacedRect {
         spot: Spot::Nowhere,
         count,
     }

@@ -46,9 +46,11 @@ nextLine r = reading (r .chambers) (r .coils) (r .line + 1) (r .slip) (r .word)
 abbrev pub slipped : ℕ → ℕ → Reading → Reading
 slipped slip word r = reading (r .chambers) (r .coils) (r .line) slip word
 
+-- one chamber more, as its record: "id, width, height, depth, free count"
 abbrev pub withChamber : TargetBin → Reading → Reading
 withChamber b r = reading (withEntry (binWords b) (r .line) (r .chambers)) (r .coils) (r .line) (r .slip) (r .word)
 
+-- one coil more, as its record: "id, group (0 for none), width, height, depth"
 abbrev pub withCoil : RectToPlace → Reading → Reading
 withCoil c r = reading (r .chambers) (withEntry (rectWords c) (r .line) (r .coils)) (r .line) (r .slip) (r .word)
 

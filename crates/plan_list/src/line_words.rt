@@ -89,11 +89,9 @@ fn start_of(line: &[u8], k: usize) -> usize
         ⌝ }
 {
     let mut at = first_of(line, Mark::PART);
-    let mut i = 0;
-    while i < k {
+    for i in 0..k {
         let next = next_start(line, at);
         at = next;
-        i += 1;
     }
     at
 }

@@ -46,10 +46,8 @@ pub fn write_coils(out: &mut [u8], at: usize, coils: &[u32], placements: &[u32],
     ensures { λ r. ⌜ Written at (coilTexts (now (coils .entry)) (now (placements .entry)) n) (now (out .entry)) (now (out .exit)) r × (r ≤ at + n * 80) ⌝ }
 {
     let mut next = at;
-    let mut i = 0;
-    while i < n {
+    for i in 0..n {
         next = write_coil(out, next, coils, placements, i);
-        i += 1;
     }
     next
 }

@@ -1,4 +1,4 @@
--- What only the contracts of private functions cite.
+-- What functions below the jobs lean on and leave. No job's contract cites it, and a reader of the rules needs none of it.
 use Prim.Native.Nat.{ℕ, _*_}
 use mathlib.Core.Path.{_≡_}
 use mathlib.Core.List.{List}

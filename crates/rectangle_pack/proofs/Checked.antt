@@ -11,6 +11,8 @@ use Rattle.lists.proofs.Flags.{and-first, and-second, and-no-first, and-no-seco
 use Rattle.lists.proofs.Lowests.{None}
 use Rattle.replies.specs.declared.reply.Reply.{Reply}
 use Rattle.replies.specs.Replies.{reply, inOrder}
+use Rattle.bin_section.specs.Leaning.{Small}
+use Rattle.bin_section.proofs.Ranges.{range→small}
 use Rattle.target_bin.specs.declared.chamber.TargetBin.{TargetBin}
 use Rattle.target_bin.specs.Chambers.{chamberAt, chamberCount}
 use Rattle.target_bin.specs.Checks.{tableChecks}
@@ -22,6 +24,7 @@ use Rattle.grouped_rects_to_place.specs.Checks.{badRect}
 use Rattle.grouped_rects_to_place.proofs.Checking.{good-rects}
 use Rattle.rectangle_pack.specs.Pack.{rectLengthsOk, rectChecks, packChecks}
 use Rattle.packing_rules.specs.Packing.{noRoom}
+use Rattle.packing_rules.proofs.Left.{inside-reachable}
 use Rattle.rectangle_pack.specs.Leaning.{Passed}
 
 -- ---- 1
@@ -78,38 +81,31 @@ module _ (c st rects p : List ℕ) (all : AllPass (packChecks c st rects p)) whe
   unfolding packChecks rectChecks
   no-bad = no-fault _ _ (all .1 .1 .1 .1 .0)
 
+  pub none-full : None (chamberCount c) (noRoom c (rectCount rects))
+  unfolding packChecks rectChecks
+  none-full = no-fault _ _ (all .1 .1 .1 .1 .1 .1 .0)
+
   room-at : (k : ℕ) → k < chamberCount c → chamberAt c k .count + 2 * rectCount rects ≤ 128
-  unfolding packChecks rectChecks noRoom
-  room-at k h = ltb-false _ _ (no-fault _ _ (all .1 .1 .1 .1 .1 .1 .0) .at k h)
+  unfolding noRoom
+  room-at k h = ltb-false _ _ (none-full .at k h)
 
   lengths-ok : RectLengths rects p
   unfolding packChecks
   lengths-ok = rect-lengths rects p (not-false _ (all .0))
 
+  small-at : (k : ℕ) → k < chamberCount c → Small (chamberAt c k .whd)
+  small-at k h = range→small _ (sound-before .shapes-ok .sides k h)
+
   pub passed : Passed c st rects p
   passed =
       let l = lengths-ok in
-      let s = sound-before in
       record {
         ready = record {
-          shaped = s .shaped;
+          shaped = sound-before .shaped;
           room = room-at;
-          reach = λ k h. record {
-            at = λ i g.
-                let q = s .all-in .inside k i h g in
-                let d = s .shapes-ok .sides k h in
-                record {
-                  x-end = omega (arith, q .right, d .width-ok .most);
-                  y-end = omega (arith, q .above, d .height-ok .most);
-                  z-end = omega (arith, q .behind, d .depth-ok .most);
-                };
-          };
+          reach = λ k h. record { at = λ i g. inside-reachable _ (small-at k h) _ (sound-before .all-in .inside k i h g) };
         };
-        small = record {
-          at = λ k h.
-              let d = s .shapes-ok .sides k h in
-              record { width-small = d .width-ok .most; height-small = d .height-ok .most; depth-small = d .depth-ok .most };
-        };
+        small = record { at = small-at };
         rects-good = good-rects rects (rectCount rects) (l .few) (omega (arith, l .long)) no-bad;
         rects-long = l .long;
         places-long = l .places;

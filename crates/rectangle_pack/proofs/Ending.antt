@@ -13,6 +13,7 @@ use Rattle.grouped_rects_to_place.specs.Groups.{groupsOf}
 use Rattle.packing_rules.specs.Order.{trialOrder}
 use Rattle.packing_rules.specs.Packing.{state, packGroups, start, packing}
 use Rattle.rectangle_pack.specs.Pack.{rectChecks, packChecks, PackOutcome, packOutcome, written, packOf}
+use Rattle.placement.specs.Placements.{placementWidth}
 use Rattle.packing_rules.specs.Seats.{unplaced}
 use Rattle.rectangle_pack.specs.Leaning.{Tidied, GroupsPacked}
 use Rattle.rectangle_pack.proofs.Running.{all-written}
@@ -21,7 +22,7 @@ use Rattle.rectangle_pack.proofs.Tidying.{tidied-free}
 
 pub packing-done :
     (c st rects p st₁ p₁ : List ℕ) (a : Reply) (c′ st′ p′ : List ℕ)
-    → length p ≡ rectCount rects * 5
+    → length p ≡ rectCount rects * placementWidth
     → Tidied c st st₁
     → p₁ ≡ replicate (length p) 0
     → GroupsPacked (rectAt rects) (rectCount rects) a c st₁ p₁ c′ st′ p′

@@ -1,11 +1,11 @@
--- What the private functions of pack lean on and leave. A reader of pack's rules needs none of it.
+-- What functions below the jobs lean on and leave. No job's contract cites it, and a reader of the rules needs none of it.
 use Prim.Native.Nat.{ℕ, _+_, _*_, _≤_, _<_}
 use mathlib.Core.Path.{_≡_}
 use mathlib.Core.List.{List}
 use lib.ListN.{length, getD}
 use Rattle.bin_section.specs.declared.rect_to_insert.RectToInsert.{RectToInsert}
 use Rattle.bin_section.specs.declared.section.BinSection.{BinSection}
-use Rattle.bin_section.specs.Sides.{Small}
+use Rattle.bin_section.specs.Leaning.{Small}
 use Rattle.sections.specs.Sections.{sections}
 use Rattle.sections.specs.Leaning.{ZeroPast}
 use Rattle.try_place.specs.declared.packed_location.PackedLocation.{PackedLocation}

@@ -37,13 +37,11 @@ fn first_without_room(chambers: &[u32], n: usize) -> usize
     ensures { λ r. ⌜ (r ≡ lowest (chamberCount (now (chambers .entry))) (noRoom (now (chambers .entry)) n)) × (r ≤ chamberCount (now (chambers .entry))) ⌝ }
 {
     let bins = chambers.len() / TargetBin::WORDS;
-    let mut k = 0;
-    while k < bins {
+    for k in 0..bins {
         let bin = TargetBin::read(chambers, k);
         if (TargetBin::SECTIONS as usize) < (bin.count as usize) + 2 * n {
             return k;
         }
-        k += 1;
     }
     bins
 }

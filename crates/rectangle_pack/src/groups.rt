@@ -48,12 +48,10 @@ fn first_fitting(
     requires { ⌜ Ready (now chambers) (now store) m × Indices (chamberCount (now chambers)) n (now order) × GroupOf (now rects) m (now group) × (length (now copy) ≡ 768) ⌝ }
     ensures { λ t. ⌜ FirstFit (take n (now (order .entry))) (rectAt (now (rects .entry))) (take m (now (group .entry))) (freeOf (now (chambers .entry)) (now (store .entry))) n t ⌝ }
 {
-    let mut t = 0;
-    while t < n {
+    for t in 0..n {
         if goes_in(chambers, store, order[t], rects, group, m, copy) {
             return t;
         }
-        t += 1;
     }
     n
 }

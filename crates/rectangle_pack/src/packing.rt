@@ -40,10 +40,8 @@ fn clear_tails(chambers: &[u32], store: &mut [u32])
     ensures { λ _. ⌜ Tidied (now (chambers .entry)) (now (store .entry)) (now (store .exit)) ⌝ }
 {
     let n = chambers.len() / TargetBin::WORDS;
-    let mut k = 0;
-    while k < n {
+    for k in 0..n {
         clear_tail(chambers, store, k);
-        k += 1;
     }
 }
 
@@ -94,8 +92,7 @@ fn pack_groups(
     requires { ⌜ Ready (now chambers) (now store) n × Clean (now chambers) (now store) × GoodRects (now rects) n × HasPlacements (now placements) (rectCount (now rects)) × Listed (chamberCount (now chambers)) (trialOrder (now chambers)) (now order) bins × Listed n (groupOrder n (rectAt (now rects))) (now leads) groups × (bins ≤ length (now order)) × (groups ≤ length (now leads)) × (n ≤ length (now group)) × (length (now copy) ≡ 768) ⌝ }
     ensures { λ r. ⌜ GroupsPacked (rectAt (now (rects .entry))) n r (now (chambers .entry)) (now (store .entry)) (now (placements .entry)) (now (chambers .exit)) (now (store .exit)) (now (placements .exit)) ⌝ }
 {
-    let mut g = 0;
-    while g < groups {
+    for g in 0..groups {
         let lead = leads[g];
         if !pack_next(
             chambers,
@@ -111,7 +108,6 @@ fn pack_groups(
         ) {
             return Reply::new(Reply::NOT_ENOUGH_BIN_SPACE, lead as u32);
         }
-        g += 1;
     }
     Reply::new(Reply::DONE, 0)
 }

@@ -3,7 +3,7 @@ ghost use mathlib.Core.Path.{_≡_};
 ghost use Prim.Native.Nat.{_*_, _≤_};
 ghost use lib.ListN.{length, take};
 ghost use Rattle.sections.specs.Sections.{sections};
-ghost use Rattle.placing.specs.Leaning.{PlacedIn};
+ghost use Rattle.placing.specs.Leaning.{PlacedOne};
 ghost use Rattle.packing_rules.specs.Rules.{placeGroup};
 ghost use Rattle.grouped_rects_to_place.specs.Rect.{rectAt, rectCount};
 ghost use Rattle.grouped_rects_to_place.specs.Leaning.{HasRect};
@@ -14,7 +14,7 @@ use crate::placements::write_placement;
 use bin_section::BinSection;
 use bin_section::RectToInsert;
 use grouped_rects_to_place::RectToPlace;
-use placing::Placed;
+use placing::PlacedRect;
 use placing::Spot;
 use placing::place_rect;
 use words::put_words;
@@ -29,9 +29,9 @@ pub fn copy_sections(part: &[u32], count: usize, copy: &mut [u32])
 }
 
 // The rectangle at an index of the table, placed.
-fn place_next(words: &mut [u32], count: usize, rects: &[u32], i: usize) -> Placed
+fn place_next(words: &mut [u32], count: usize, rects: &[u32], i: usize) -> PlacedRect
     requires { ⌜ Enough count 1 (now words) × HasRect (now rects) i ⌝ }
-    ensures { λ p. ⌜ PlacedIn count (rectIn (now (rects .entry)) i) p (now (words .entry)) (now (words .exit)) ⌝ }
+    ensures { λ p. ⌜ PlacedOne count (rectIn (now (rects .entry)) i) p (now (words .entry)) (now (words .exit)) ⌝ }
 {
     let rect = RectToPlace::read(rects, i);
     let whd = rect.whd;
@@ -44,15 +44,13 @@ pub fn trial(copy: &mut [u32], count: usize, rects: &[u32], group: &[usize], m: 
     ensures { λ b. ⌜ b ≡ isWhole (placeGroup (sections (now (copy .entry)) count) (rectsAt (rectAt (now (rects .entry))) (take m (now (group .entry))))) ⌝ }
 {
     let mut left = count;
-    let mut i = 0;
-    while i < m {
+    for i in 0..m {
         let placed = place_next(copy, left, rects, group[i]);
         let spot = placed.spot;
         let Spot::At(_) = spot else {
             return false;
         };
         left = placed.count;
-        i += 1;
     }
     true
 }
@@ -71,8 +69,7 @@ pub fn commit(
     ensures { λ n. ⌜ Committed (rectAt (now (rects .entry))) (take m (now (group .entry))) id count n (now (part .entry)) (now (part .exit)) (now (placements .entry)) (now (placements .exit)) ⌝ }
 {
     let mut left = count;
-    let mut i = 0;
-    while i < m {
+    for i in 0..m {
         let at = group[i];
         let placed = place_next(part, left, rects, at);
         let spot = placed.spot;
@@ -81,7 +78,6 @@ pub fn commit(
         };
         write_placement(placements, at, id, location);
         left = placed.count;
-        i += 1;
     }
     left
 }

@@ -25,10 +25,8 @@ pub fn take_tables(job: &[u32], chambers: &mut [u32], store: &mut [u32], c: usiz
 {
     mark(store, MARK);
     let mut place = take_words(job, TABLES, c * TargetBin::WORDS, chambers, 0);
-    let mut k = 0;
-    while k < c {
+    for k in 0..c {
         place = take_sections(job, place, chambers, store, k);
-        k += 1;
     }
     place
 }
@@ -96,11 +94,9 @@ fn put_sections(
     ensures { λ r. ⌜ r ≤ length (now (answer .entry)) ⌝ }
 {
     let mut place = start;
-    let mut k = 0;
-    while k < c {
+    for k in 0..c {
         let words = section_words(chambers, k);
         place = put_part(answer, place, words, store, k * TargetBin::STORE);
-        k += 1;
     }
     place
 }
@@ -110,10 +106,8 @@ fn count_stray(chambers: &[u32], store: &[u32], c: usize, wanted: u32) -> u32
     requires { ⌜ (c ≤ 16) × (c * 5 ≤ length (now chambers)) × (c * 768 ≤ length (now store)) ⌝ }
 {
     let mut stray = 0;
-    let mut k = 0;
-    while k < c {
+    for k in 0..c {
         stray += count_stray_in(chambers, store, k, wanted);
-        k += 1;
     }
     stray as u32
 }

@@ -1,6 +1,6 @@
 -- Laws of checks in their order, over any answer, and `checks`: the set by which `search` finds what a ladder of checks answers.
 use Prim.Native.Nat.{ℕ, _≤_, _<_}
-use mathlib.Core.Path.{_≡_, refl, sym, ap, _∙_}
+use mathlib.Core.Path.{_≡_, refl, sym, ap, _∙_, subst}
 use mathlib.Core.List.{List, [], _∷_, _++_, append-nil}
 use mathlib.Core.Bool.{Bool, true, false, not, _&&_, cond}
 use native.Mathlib.Omega.{arith}
@@ -60,6 +60,20 @@ pub ruleset checks = (fires, passes, all-done, not-as, found-at, none-at, eq-eqb
 abbrev pub AllPass : {A : Type 0} → List (Check A) → Type 0
 AllPass [] = Unit
 AllPass (c ∷ cs) = (c .fires ≡ false) × AllPass cs
+
+-- what holds of each answer, where its check fires and those before it do not, and of what is given where none does
+abbrev pub OfEach : {A : Type 0} → (A → Type 0) → List (Check A) → A → Type 0
+OfEach P [] d = P d
+OfEach P (c ∷ cs) d = (c .fires ≡ true → P (c .answer)) × (c .fires ≡ false → OfEach P cs d)
+
+-- holds of the row's answer
+pub of-each : {A : Type 0} (P : A → Type 0) (cs : List (Check A)) (d : A) → OfEach P cs d → P (inOrder cs (λ a. a) d)
+of-each P [] d e = subst P (sym (all-done (λ a. a) d)) e
+of-each P (c ∷ cs) d e = go (λ p. of-each P cs d p) (c .fires) refl
+  where
+    go : (OfEach P cs d → P (inOrder cs (λ a. a) d)) → (b : Bool) → c .fires ≡ b → P (inOrder (c ∷ cs) (λ a. a) d)
+    go rest true f = subst P (sym (fires (λ a. a) d c cs f)) (e .0 f)
+    go rest false f = subst P (sym (passes (λ a. a) d c cs f)) (rest (e .1 f))
 
 -- a test of each answer of the row. It computes: each check names its number.
 abbrev pub eachAnswer : {A : Type 0} → (A → Bool) → List (Check A) → Bool

@@ -9,7 +9,7 @@ use lib.ListN.{length, getD, take, drop, replicate, length-drop, length-replicat
 use lib.Seq.{getD-drop, ext-getD}
 use Rattle.lists.specs.Tab.{put}
 use Rattle.lists.proofs.Tabs.{tab-suc, length-put, getD-put-in, getD-put-before}
-use Rattle.words.specs.Words.{without}
+use Rattle.words.specs.Leaning.{without}
 use Rattle.words.proofs.Records as records
 use Rattle.bin_section.specs.declared.section.BinSection.{BinSection}
 use Rattle.bin_section.specs.Section.{sectionAt, sectionWords, zeroSection}

@@ -1,6 +1,6 @@
 -- Laws of a list of words read as sections, by the laws of a record.
 use Prim.Native.Nat.{ℕ, _+_, _*_, _≤_, _<_}
-use mathlib.Core.Path.{_≡_, sym, ap, _∙_}
+use mathlib.Core.Path.{_≡_, refl, sym, ap, _∙_}
 use mathlib.Core.List.{List}
 use native.Mathlib.Omega.{arith}
 use lib.ListN.{length, getD, take, drop}
@@ -37,6 +37,9 @@ sections-ext w v n h =
     getD-sections w n k zeroSection b′ ∙ h k b′ ∙ sym (getD-sections v n k zeroSection b′))
 
 -- ---- reading and writing are each other's inverse
+
+pub length-allWords : (l : List BinSection) → length (allWords l) ≡ length l * 6
+length-allWords l = records.length-joined (λ b. sectionWords b) 6 l zeroSection (λ i h. refl)
 
 pub encoded : (w : List ℕ) (n : ℕ) → n * 6 ≤ length w → allWords (sections w n) ≡ take (n * 6) w
 unfolding sections

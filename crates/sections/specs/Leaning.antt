@@ -1,11 +1,11 @@
--- What the private functions lean on and leave. A reader of the rules needs none of it.
+-- What functions below the jobs lean on and leave. No job's contract cites it, and a reader of the rules needs none of it.
 use Prim.Native.Nat.{ℕ, _+_, _*_, _-_, _≤_, _<_}
 use mathlib.Core.Path.{_≡_}
 use mathlib.Core.List.{List, [], _∷_, _++_}
 use lib.ListN.{length, replicate}
 use Rattle.lists.specs.Tab.{removeAt, put}
 use Rattle.bin_section.specs.declared.section.BinSection.{BinSection}
-use Rattle.bin_section.specs.Sides.{Small}
+use Rattle.bin_section.specs.Leaning.{Small}
 use Rattle.bin_section.specs.Section.{sectionAt, sectionWords, zeroSection}
 use Rattle.sections.specs.Sections.{sections, allWords}
 

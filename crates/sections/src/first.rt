@@ -15,13 +15,11 @@ pub fn first_outside(words: &[u32], n: usize, whd: WidthHeightDepth) -> usize
     requires { ⌜ n * 6 ≤ length (now words) ⌝ }
     ensures { λ r. ⌜ r ≡ lowest n (outsideAt whd (now (words .entry))) ⌝ }
 {
-    let mut i = 0;
-    while i < n {
+    for i in 0..n {
         let section = BinSection::read(words, i);
         if !inside(section, whd) {
             return i;
         }
-        i += 1;
     }
     n
 }
@@ -31,13 +29,11 @@ pub fn first_shared(words: &[u32], n: usize) -> usize
     requires { ⌜ n * 6 ≤ length (now words) ⌝ }
     ensures { λ r. ⌜ r ≡ lowest n (sharesEarlier (sections (now (words .entry)) n)) ⌝ }
 {
-    let mut i = 0;
-    while i < n {
+    for i in 0..n {
         let section = BinSection::read(words, i);
         if first_sharing(words, i, section) < i {
             return i;
         }
-        i += 1;
     }
     n
 }

@@ -66,12 +66,10 @@ fn first_from(words: &[u32], i: usize, m: usize, other: BinSection) -> usize
     requires { ⌜ ((i + m) * 6 ≤ length (now words)) × (i ≤ lowest (i + m) (sharesAt other (now words))) ⌝ }
     ensures { λ r. ⌜ r ≡ lowest (i + m) (sharesAt other (now (words .entry))) ⌝ }
 {
-    let mut k = 0;
-    while k < m {
+    for k in 0..m {
         if BinSection::read(words, i + k).overlaps(other) {
             return i + k;
         }
-        k += 1;
     }
     i + m
 }

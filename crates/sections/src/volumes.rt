@@ -13,10 +13,8 @@ pub fn sum_of_volumes(words: &[u32], n: usize) -> u64
     ensures { λ r. ⌜ (r ≡ volumes (sections (now (words .entry)) n)) × (r ≤ n * 281462092005375) ⌝ }
 {
     let mut sum = 0;
-    let mut i = 0;
-    while i < n {
+    for i in 0..n {
         sum += BinSection::read(words, i).whd.volume();
-        i += 1;
     }
     sum
 }

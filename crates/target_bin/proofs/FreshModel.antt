@@ -5,6 +5,7 @@ use mathlib.Core.List.{List, [], _∷_, map}
 use native.Mathlib.Omega.{arith}
 use lib.ListN.{length, getD, length-map, List·getD-map}
 use Rattle.bin_section.specs.declared.section.BinSection.{BinSection}
+use Rattle.bin_section.specs.declared.width_height_depth.WidthHeightDepth.{WidthHeightDepth}
 use Rattle.bin_section.specs.Section.{wholeSection, zeroSection, sectionAt}
 use Rattle.bin_section.specs.Sides.{sides}
 use Rattle.bin_section.specs.Inside.{Inside}
@@ -53,18 +54,11 @@ module _ (chambers : List ℕ) where
       one : (i : ℕ) → i < chamberCount chambers → length (getD (map (λ b. wholeOf b) (chambersOf chambers)) i []) ≡ 1
       one i h = ap length (getD-map-in (λ b. wholeOf b) (chambersOf chambers) i [] (bin 0 (sides 0 0 0) 0) (omega (arith, length-chambersOf chambers)))
 
--- the tables pass checks 1 to 3 again
-fresh-inside : (b : TargetBin) → SidesInRange (b .whd) → Inside (b .whd) (wholeSection (b .whd))
-fresh-inside b h =
-    record {
-      wide = h .width-ok .some;
-      tall = h .height-ok .some;
-      deep = h .depth-ok .some;
-      right = omega arith;
-      above = omega arith;
-      behind = omega arith;
-    }
+-- the one section lies inside
+pub whole-inside : (whd : WidthHeightDepth) → SidesInRange whd → Inside whd (wholeSection whd)
+whole-inside whd h = omega arith
 
+-- the tables pass checks 1 to 3 again
 module _ (chambers store : List ℕ) (lengths-ok : Lengths chambers store) (shapes-ok : ShapesSound chambers) where
   at : (i : ℕ) → i < chamberCount (freshTable chambers) → chamberAt (freshTable chambers) i ≡ freshened (chamberAt chambers i)
   at i h = fresh-at chambers i (omega (arith, fresh-count chambers))
@@ -111,6 +105,6 @@ module _ (chambers store : List ℕ) (lengths-ok : Lengths chambers store) (shap
         };
         all-in = record {
           inside = λ i j h l.
-              rw (fresh-section i j h l, at i h) (fresh-inside (chamberAt chambers i) (shapes-ok .sides i (omega (arith, fresh-count chambers))));
+              rw (fresh-section i j h l, at i h) (whole-inside (chamberAt chambers i .whd) (shapes-ok .sides i (omega (arith, fresh-count chambers))));
         };
       }

@@ -10,11 +10,10 @@ use lib.Seq.{length-take-le, getD-take, getD-drop, ext-getD, take-at, drop-at, t
 use Rattle.lists.specs.Tab.{tab, put}
 use Rattle.lists.proofs.Tabs.{length-tab, getD-tab, tab-set, length-put, getD-put-before, getD-put-after, lent}
 use Rattle.bin_section.specs.declared.section.BinSection.{BinSection}
-use Rattle.bin_section.specs.Section.{sectionWords, zeroSection}
 use Rattle.sections.specs.Sections.{sections, allWords}
 use Rattle.sections.specs.Leaning.{ZeroPast}
-use Rattle.words.proofs.Records.{length-joined, joined-take, joined-part}
-use Rattle.sections.proofs.Reading.{decoded, length-sections}
+use Rattle.words.proofs.Records.{joined-take, joined-part}
+use Rattle.sections.proofs.Reading.{decoded, length-sections, length-allWords}
 use Rattle.sections.proofs.Moves.{part-words}
 use Rattle.target_bin.specs.Chambers.{chamberAt, chamberCount}
 use Rattle.target_bin.specs.Store.{partAt, freeAt, freeOf, partOf, storeOf}
@@ -91,14 +90,13 @@ came-back w ys c long = lent w ys (c * 768) (c * 768 + 768 - c * 768) (omega ari
 pub length-partOf : (free : List BinSection) → length free ≤ 128 → length (partOf free) ≡ 768
 unfolding partOf
 length-partOf free h =
-    let e : length (allWords free) ≡ length free * 6 = length-joined (λ s. sectionWords s) 6 free zeroSection (λ i b. refl) in
-    simp (length-append, e, length-replicate) (omega arith)
+    simp (length-append, length-allWords, length-replicate) (omega arith)
 
 pub sections-partOf : (free : List BinSection) → sections (partOf free) (length free) ≡ free
 unfolding partOf
 sections-partOf free =
     decoded free (allWords free ++ replicate (768 - length free * 6) 0) (length free) refl
-    (take-at (allWords free) (replicate (768 - length free * 6) 0) (length free * 6) (length-joined (λ s. sectionWords s) 6 free zeroSection (λ i b. refl)))
+    (take-at (allWords free) (replicate (768 - length free * 6) 0) (length free * 6) (length-allWords free))
 
 pub length-freeOf : (chambers store : List ℕ) → length (freeOf chambers store) ≡ chamberCount chambers
 unfolding freeOf

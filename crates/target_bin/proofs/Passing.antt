@@ -76,12 +76,12 @@ pub shapes : (chambers : List ℕ) → None (chamberCount chambers) (badChamber 
 shapes chambers p = record { at = λ i h. ap not (shape-of chambers i (not-false _ (p .at i h))) }
 
 -- 3
-pub record AllInside (chambers store : List ℕ) : Type 0 where
+pub record SectionsInside (chambers store : List ℕ) : Type 0 where
   pub inside : (i j : ℕ) → i < chamberCount chambers → j < chamberAt chambers i .count → Inside (chamberAt chambers i .whd) (sectionAt (partAt store i) j)
 
-pub all-inside : (chambers store : List ℕ) → None (chamberCount chambers) (badSections chambers store) → AllInside chambers store
+pub sections-inside : (chambers store : List ℕ) → None (chamberCount chambers) (badSections chambers store) → SectionsInside chambers store
 unfolding badSections
-all-inside chambers store p =
+sections-inside chambers store p =
     record {
       inside = λ i j h l.
           inside→ (chamberAt chambers i .whd) (sectionAt (partAt store i) j)
@@ -94,7 +94,7 @@ all-inside chambers store p =
 pub record Sound (chambers store : List ℕ) : Type 0 where
   pub shaped : Shaped chambers store
   pub shapes-ok : ShapesSound chambers
-  pub all-in : AllInside chambers store
+  pub all-in : SectionsInside chambers store
 
 pub shaped-from : (chambers store : List ℕ) → Lengths chambers store → Counted chambers → Shaped chambers store
 shaped-from chambers store l c = record { few = l .few; whole = l .whole; long = l .long; counted = c }
@@ -104,7 +104,7 @@ sound chambers store t p q =
     record {
       shaped = shaped-from chambers store (lengths chambers store t) (counted chambers p);
       shapes-ok = shapes-sound chambers (shapes chambers p);
-      all-in = all-inside chambers store q;
+      all-in = sections-inside chambers store q;
     }
 
 -- ---- the other way round: sound tables pass
@@ -126,7 +126,7 @@ unfolding shapeOk
 unfolding chamberOk
 →chamber chambers i h c l = and-both (shapeOk chambers i) (leb (chamberAt chambers i .count) 128) (→shape chambers i h l) (le-leb _ _ c)
 
-→sections : (chambers store : List ℕ) (i : ℕ) → AllInside chambers store → i < chamberCount chambers → badSections chambers store i ≡ false
+→sections : (chambers store : List ℕ) (i : ℕ) → SectionsInside chambers store → i < chamberCount chambers → badSections chambers store i ≡ false
 unfolding badSections
 →sections chambers store i h l =
     none-any (chamberAt chambers i .count) (outsideAt (chamberAt chambers i .whd) (partAt store i))

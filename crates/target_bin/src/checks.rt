@@ -71,12 +71,10 @@ pub fn first_bad_chamber(chambers: &[u32], counts: bool) -> usize
     ensures { λ r. ⌜ r ≡ lowest (chamberCount (now (chambers .entry))) (λ i. cond counts (badChamber (now (chambers .entry)) i) (badShape (now (chambers .entry)) i)) ⌝ }
 {
     let n = chambers.len() / TargetBin::WORDS;
-    let mut i = 0;
-    while i < n {
+    for i in 0..n {
         if bad_chamber(chambers, i, counts) {
             return i;
         }
-        i += 1;
     }
     n
 }
@@ -99,12 +97,10 @@ pub fn first_bad_section(chambers: &[u32], store: &[u32]) -> usize
     ensures { λ r. ⌜ r ≡ lowest (chamberCount (now (chambers .entry))) (badSections (now (chambers .entry)) (now (store .entry))) ⌝ }
 {
     let n = chambers.len() / TargetBin::WORDS;
-    let mut i = 0;
-    while i < n {
+    for i in 0..n {
         if bad_sections(chambers, store, i) {
             return i;
         }
-        i += 1;
     }
     n
 }
@@ -133,13 +129,11 @@ pub fn find_chamber(chambers: &[u32], id: u32) -> usize
     ensures { λ r. ⌜ r ≡ chamberOf (now (chambers .entry)) id ⌝ }
 {
     let n = chambers.len() / TargetBin::WORDS;
-    let mut i = 0;
-    while i < n {
+    for i in 0..n {
         let bin = TargetBin::read(chambers, i);
         if bin.id == id {
             return i;
         }
-        i += 1;
     }
     n
 }

@@ -37,10 +37,8 @@ fn freshen_all(chambers: &mut [u32], store: &mut [u32])
     ensures { λ _. ⌜ (now (chambers .exit) ≡ freshTable (now (chambers .entry))) × (now (store .exit) ≡ freshStore (now (chambers .entry))) ⌝ }
 {
     let n = chambers.len() / TargetBin::WORDS;
-    let mut i = 0;
-    while i < n {
+    for i in 0..n {
         freshen(chambers, store, i);
-        i += 1;
     }
 }
 

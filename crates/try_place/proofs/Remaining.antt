@@ -20,7 +20,7 @@ use Rattle.try_place.proofs.Choosing.{chosen-below}
 use Rattle.try_place.proofs.Refusing.{fit-passes, fit-placed}
 
 -- b does not reach past s on any side
-pub record Within (s b : BinSection) : Type 0 where
+pub record BoxWithin (s b : BinSection) : Type 0 where
   pub x-low : s .x ≤ b .x
   pub y-low : s .y ≤ b .y
   pub z-low : s .z ≤ b .z
@@ -29,9 +29,9 @@ pub record Within (s b : BinSection) : Type 0 where
   pub z-high : b .z + b .whd .depth ≤ s .z + s .whd .depth
 
 pub record ThreeWithin (s : BinSection) (t : List BinSection) : Type 0 where
-  pub first : Within s (getD t 0 zeroSection)
-  pub second : Within s (getD t 1 zeroSection)
-  pub third : Within s (getD t 2 zeroSection)
+  pub first : BoxWithin s (getD t 0 zeroSection)
+  pub second : BoxWithin s (getD t 1 zeroSection)
+  pub third : BoxWithin s (getD t 2 zeroSection)
 
 pub row-within : (s : BinSection) (r : RectToInsert) (k : ℕ) → Fitting s r → k < 6 → ThreeWithin s (getD (sixSplits s r) k [])
 unfolding sixSplits
@@ -57,7 +57,7 @@ row-long s r (suc (suc (suc (suc (suc (suc k)))))) h = absurd (omega arith)
 pub chosen-small : (s : BinSection) (r : RectToInsert) → Fitting s r → SmallBoxes (placedOf s r .sections)
 chosen-small s r f = let w = row-within s r (chosen (sixSplits s r)) f (chosen-below (sixSplits s r)) in omega arith
 
-pub within-reachable : (s b : BinSection) → Reachable s → Within s b → Reachable b
+pub within-reachable : (s b : BinSection) → Reachable s → BoxWithin s b → Reachable b
 within-reachable s b p w = omega arith
 
 pub fitting : (s : BinSection) (r : RectToInsert) → Reachable s → AllPass (fitChecks s r) → Fitting s r

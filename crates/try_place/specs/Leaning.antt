@@ -1,9 +1,9 @@
--- What the private functions lean on and leave. A reader of the rules needs none of it.
+-- What functions below the jobs lean on and leave. No job's contract cites it, and a reader of the rules needs none of it.
 use Prim.Native.Nat.{_+_, _≤_}
 use mathlib.Core.List.{List, []}
 use Rattle.bin_section.specs.declared.rect_to_insert.RectToInsert.{RectToInsert}
 use Rattle.bin_section.specs.declared.section.BinSection.{BinSection}
-use Rattle.bin_section.specs.Sides.{Small}
+use Rattle.bin_section.specs.Leaning.{Small}
 use Rattle.bin_section.specs.Section.{zeroSection}
 use lib.ListN.{getD}
 

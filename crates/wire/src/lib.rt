@@ -41,10 +41,8 @@ pub fn read_words(bytes: &[u8], words: &mut [u32], n: usize)
     requires { ⌜ (n * 4 ≤ length (now bytes)) × (n ≤ length (now words)) ⌝ }
     ensures { λ _. ⌜ now (words .exit) ≡ wordsIn (now (bytes .entry)) n ++ drop n (now (words .entry)) ⌝ }
 {
-    let mut i = 0;
-    while i < n {
+    for i in 0..n {
         words[i] = read_word(bytes, i);
-        i += 1;
     }
 }
 
@@ -53,10 +51,8 @@ pub fn write_words(bytes: &mut [u8], words: &[u32], n: usize)
     requires { ⌜ (n * 4 ≤ length (now bytes)) × (n ≤ length (now words)) ⌝ }
     ensures { λ _. ⌜ now (bytes .exit) ≡ bytesIn (now (words .entry)) n ++ drop (n * 4) (now (bytes .entry)) ⌝ }
 {
-    let mut i = 0;
-    while i < n {
+    for i in 0..n {
         let word = words[i];
         write_word(bytes, i, word);
-        i += 1;
     }
 }

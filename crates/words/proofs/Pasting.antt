@@ -7,7 +7,7 @@ use native.Mathlib.Omega.{arith}
 use lib.ListN.{length, take, drop, getD, set, replicate, length-replicate, getD-replicate, length-take, length-drop, drop-of-length-le}
 use lib.Seq.{paste, paste-zero, paste-suc, length-paste, drop-paste, take-length, getD-take, getD-drop}
 use Rattle.lists.specs.Tab.{put}
-use Rattle.words.specs.Words.{movedDown}
+use Rattle.words.specs.Leaning.{movedDown}
 
 -- the first i of the values stand at an index, and no other word changed
 pub record Pasted (l : List ℕ) (at : ℕ) (s : List ℕ) (i : ℕ) (w : List ℕ) : Type 0 where

@@ -12,7 +12,8 @@ use lib.Seq.{take-add, take-all, take-at, drop-at, drop-drop, getD-take, getD-dr
 use Rattle.lists.specs.Tab.{tab, put, removeAt}
 use Rattle.lists.proofs.Tabs.{length-tab, getD-tab, tab-suc, tab-set, length-put, length-removeAt, getD-removeAt-before, getD-removeAt-after, getD-put-in, getD-put-before, getD-put-after}
 use Rattle.lists.proofs.Fills.{front-put}
-use Rattle.words.specs.Words.{joined, without}
+use Rattle.words.specs.Words.{joined}
+use Rattle.words.specs.Leaning.{without}
 use Rattle.words.proofs.Taking.{without-before, without-moved, without-zero, without-past}
 
 -- ---- rows of k words

@@ -7,7 +7,7 @@ use lib.ListN.{length, getD, take, drop, replicate, length-replicate, getD-repli
 use lib.Seq.{getD-take, getD-drop}
 use Rattle.lists.specs.Tab.{put}
 use Rattle.lists.proofs.Tabs.{length-put, getD-put-in, getD-put-before, getD-put-after}
-use Rattle.words.specs.Words.{movedDown, without}
+use Rattle.words.specs.Leaning.{movedDown, without}
 
 module _ (at k n : ℕ) (w : List ℕ) (room : at + k + n ≤ length w) where
   abbrev down : List ℕ

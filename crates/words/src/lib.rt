@@ -3,7 +3,7 @@ ghost use Prim.Native.Nat.{_+_, _≤_};
 ghost use mathlib.Core.Path.{_≡_};
 ghost use lib.ListN.{length, replicate};
 ghost use Rattle.lists.specs.Tab.{put};
-ghost use Rattle.words.specs.Words.{movedDown, without};
+ghost use Rattle.words.specs.Leaning.{movedDown, without};
 
 // Writes the values to the words from an index on.
 pub fn put_words(words: &mut [u32], at: usize, values: &[u32])
@@ -22,10 +22,8 @@ pub fn fill(words: &mut [u32], at: usize, n: usize, value: u32)
     requires { ⌜ at + n ≤ length (now words) ⌝ }
     ensures { λ _. ⌜ now (words .exit) ≡ put (now (words .entry)) at (replicate n value) ⌝ }
 {
-    let mut i = 0;
-    while i < n {
+    for i in 0..n {
         words[at + i] = value;
-        i += 1;
     }
 }
 
@@ -34,10 +32,8 @@ fn move_down(words: &mut [u32], at: usize, k: usize, n: usize)
     requires { ⌜ at + k + n ≤ length (now words) ⌝ }
     ensures { λ _. ⌜ now (words .exit) ≡ movedDown at k n (now (words .entry)) ⌝ }
 {
-    let mut i = 0;
-    while i < n {
+    for i in 0..n {
         words[at + i] = words[at + k + i];
-        i += 1;
     }
 }
 

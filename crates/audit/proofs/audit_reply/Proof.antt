@@ -3,12 +3,12 @@ use Rattle.replies.proofs.Ladders.{checks, none-found}
 use Rattle.audit.specs.Audit.{auditReply}
 use Rattle.audit.proofs.TwoLists.{boxes-length}
 use Rattle.audit.proofs.Tests.{chamber-small, none-inside}
-use Rattle.audit.proofs.Replying.{lengths}
+use Rattle.audit.proofs.Replying.{box-lengths}
 use Rattle.audit.proofs.audit_reply as it
 
 -- what is known past the first check
 few : (c : it.Tie.Else1) → let a = c .before .before .before .before .args in length (now (a .placed)) / 6 + length (now (a .free)) / 6 ≤ 1024
-few c = lengths _ _ (sym (c .before .lengths-ok .ensures) ∙ not-false _ (c .if1 .left)) .few
+few c = box-lengths _ _ (sym (c .before .lengths-ok .ensures) ∙ not-false _ (c .if1 .left)) .few
 
 fills-requires : it.Tie.Need-fills-requires
 fills-requires c κs =

@@ -1,5 +1,5 @@
 use Rattle.lists.proofs.Kit.{needs}
-use Rattle.words.specs.Words.{without}
+use Rattle.words.specs.Leaning.{without}
 use Rattle.words.proofs.take_out as it
 
 pub take-out-spec : {M : Type 1} → it.Statement.statement M
