@@ -5,13 +5,10 @@ use mathlib.Core.List.{List}
 use mathlib.Core.Bool.{true, false, not, _&&_}
 use lib.Dec.{eqb}
 use lib.ListN.{length}
-use borrow.Author.Tests.{eqb-true, eq-eqb, ne-eqb}
+use borrow.Author.Tests.{eqb-true, eq-eqb}
 use Rattle.lists.proofs.Flags.{and-first, and-second}
 use Rattle.replies.specs.declared.reply.Reply.{Reply}
 use Rattle.cafunderi.specs.Try.{tryLengthsOk, tryOutcome}
-
-pub wrong-length : (m n : ℕ) → (m ≡ n → ⊥) → not (eqb m n) ≡ true
-wrong-length m n h = ap not (ne-eqb m n h)
 
 pub right-length : (m n : ℕ) → m ≡ n → not (eqb m n) ≡ false
 right-length m n h = ap not (eq-eqb m n h)

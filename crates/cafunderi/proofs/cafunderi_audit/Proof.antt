@@ -3,7 +3,7 @@ use Rattle.bin_section.specs.declared.width_height_depth.WidthHeightDepth.{Widt
 use Rattle.replies.proofs.Ladders.{checks, past-all}
 use Rattle.audit.specs.Audit.{auditReply}
 use Rattle.cafunderi.specs.Audit.{auditFace}
-use Rattle.cafunderi.proofs.Faces.{wrong-length, right-length}
+use Rattle.cafunderi.proofs.Faces.{right-length}
 use Rattle.cafunderi.proofs.cafunderi_audit as it
 
 returns-2 : it.Tie.Need-returns-2
@@ -20,4 +20,4 @@ pub cafunderi-audit-spec : {M : Type 1} → it.Statement.statement M
 unfolding auditFace
 cafunderi-audit-spec =
     it.Tie.close
-    (it.Tie.spec (λ c κs. search needs) (λ c. search (checks, wrong-length)) (λ c κs. search needs) (λ c κs. search needs) returns-2)
+    (it.Tie.spec (λ c κs. search needs) (λ c. search checks) (λ c κs. search needs) (λ c κs. search needs) returns-2)

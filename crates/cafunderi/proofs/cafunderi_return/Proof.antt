@@ -4,7 +4,7 @@ use Rattle.replies.proofs.Ladders.{checks, past-all}
 use Rattle.target_bin.specs.Return.{returnOf}
 use Rattle.target_bin.proofs.Checking.{outcome-is}
 use Rattle.cafunderi.specs.Return.{returnFace}
-use Rattle.cafunderi.proofs.Faces.{wrong-length, right-length}
+use Rattle.cafunderi.proofs.Faces.{right-length}
 use Rattle.cafunderi.proofs.cafunderi_return as it
 
 returns-2 : it.Tie.Need-returns-2
@@ -21,5 +21,5 @@ pub cafunderi-return-spec : {M : Type 1} → it.Statement.statement M
 unfolding returnFace
 cafunderi-return-spec =
     it.Tie.close
-    (it.Tie.spec (λ c κs. search needs) (λ c. search (checks, outcome-is, wrong-length)) (λ c κs. search needs)
+    (it.Tie.spec (λ c κs. search needs) (λ c. search (checks, outcome-is)) (λ c κs. search needs)
     (λ c κs. search needs) (λ c. search needs) (λ c. search needs) returns-2)
