@@ -27,10 +27,8 @@ fn count_placed(placements: &[u32], n: usize) -> u32
     ensures { λ r. ⌜ (r ≡ placedCount (now (placements .entry)) n) × (r ≤ n) ⌝ }
 {
     let mut count: u32 = 0;
-    let mut i: usize = 0;
-    while i < n {
+    for i in 0..n {
         count += one_placed(placements, i);
-        i += 1;
     }
     count
 }

@@ -7,9 +7,5 @@ mod returns;
 
 pub use chamber::TargetBin;
 pub use checks::check_tables;
-pub use checks::find_chamber;
-pub use checks::first_bad_chamber;
-pub use checks::first_bad_section;
-pub use checks::lengths_ok;
 pub use freshen::fresh;
 pub use returns::return_section;
