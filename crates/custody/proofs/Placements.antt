@@ -22,7 +22,7 @@ use Rattle.try_place.specs.Splits.{sixSplits}
 use Rattle.try_place.specs.Choice.{chosen}
 use Rattle.try_place.specs.Try.{fitOf, Fits}
 use Rattle.packing_rules.specs.Appended.{appendedOf}
-use Rattle.try_place.proofs.Choosing.{chosen-below}
+use Rattle.try_place.proofs.Meaning.{chosen-below}
 use Rattle.packing_rules.specs.Rules.{placed, placeOne}
 use Rattle.packing_rules.proofs.Left.{Sided, one-left, inside-reachable, inside-passes}
 use Rattle.packing_rules.proofs.Placings.{PlacedAt, placed-at, Placings, no-more, then}

@@ -25,7 +25,7 @@ use Rattle.try_place.specs.declared.Tried.{Tried}
 use Rattle.try_place.specs.Splits.{sixSplits}
 use Rattle.try_place.specs.Choice.{chosen}
 use Rattle.try_place.specs.Try.{fitOf, Fits}
-use Rattle.try_place.proofs.Choosing.{chosen-below}
+use Rattle.try_place.proofs.Meaning.{chosen-below}
 use Rattle.try_place.proofs.Remaining.{row-long}
 use Rattle.try_place.proofs.Trying.{fit-is}
 use Rattle.target_bin.specs.Chambers.{chamberAt, chamberCount}

@@ -1,3 +1,4 @@
+pub mod Six
 pub mod Choosing
 pub mod Meaning
 pub mod Trying

@@ -1,5 +1,5 @@
 -- The chosen place is a choice, and there is only one.
-use Prim.Native.Nat.{ℕ, zero, suc, _<_, _+_}
+use Prim.Native.Nat.{ℕ, _<_, _+_}
 use mathlib.Core.Path.{_≡_, refl, sym, ap, _∙_}
 use mathlib.Core.List.{List}
 use mathlib.Core.Bool.{Bool, true, false}
@@ -16,7 +16,7 @@ use Rattle.lists.proofs.Ties.{rising, tied-says}
 use Rattle.try_place.specs.declared.choice.Ranked.{Ranked}
 use Rattle.bin_section.specs.declared.section.BinSection.{BinSection}
 use Rattle.try_place.specs.Choice.{betterOf, laterOf, bestOf, zeroRanked, ranksOf, chosen, Under, NotOver, IsChoice}
-use Rattle.try_place.proofs.Choosing.{better-less, better-tie, later-first, later-second, best-one, best-more}
+use Rattle.try_place.proofs.Choosing.{better-less, better-tie, later-first, later-second, best-one, best-more, six-long, rank-at}
 
 abbrev bySecond : Ranked → Ranked → Bool
 bySecond a b = ltb (a .second) (b .second)
@@ -114,19 +114,8 @@ picked-one xs h = (
 )
 
 -- the ranks bear their places
-six-long : (t : List (List BinSection)) → length (ranksOf t) ≡ 6
-unfolding ranksOf
-six-long t = refl
-
 index-at : (t : List (List BinSection)) (p : ℕ) → p < 6 → getD (ranksOf t) p zeroRanked .index ≡ p
-unfolding ranksOf
-index-at t zero h = refl
-index-at t (suc zero) h = refl
-index-at t (suc (suc zero)) h = refl
-index-at t (suc (suc (suc zero))) h = refl
-index-at t (suc (suc (suc (suc zero)))) h = refl
-index-at t (suc (suc (suc (suc (suc zero))))) h = refl
-index-at t (suc (suc (suc (suc (suc (suc n)))))) h = absurd (omega arith)
+index-at t p h = ap (λ (x : Ranked). x .index) (rank-at t p h)
 
 -- Demand: the chosen place is minimal and the last of its equals, and no other place is.
 pub chosen-is : (t : List (List BinSection)) → IsChoice (ranksOf t) 6 (chosen t)
@@ -153,3 +142,6 @@ one-choice xs n p q v w = elim (decLt p q) [
     | no h ↦ omega arith
   ]
 ]
+
+pub chosen-below : (t : List (List BinSection)) → chosen t < 6
+chosen-below t = chosen-is t .within

@@ -1,5 +1,5 @@
 -- What remains of a section beside a rectangle lies within the section.
-use Prim.Native.Nat.{ℕ, zero, suc, _+_, _≤_, _<_}
+use Prim.Native.Nat.{ℕ, _+_, _≤_, _<_}
 use mathlib.Core.Path.{_≡_, refl, ap}
 use mathlib.Core.List.{List, []}
 use native.Mathlib.Omega.{arith}
@@ -16,7 +16,8 @@ use Rattle.try_place.specs.Splits.{sixSplits}
 use Rattle.try_place.specs.Leaning.{Fitting, SmallBoxes, Reachable}
 use Rattle.try_place.specs.Choice.{chosen}
 use Rattle.try_place.specs.Try.{placedOf, fitChecks, fitOf}
-use Rattle.try_place.proofs.Choosing.{chosen-below}
+use Rattle.try_place.proofs.Six.{of-six}
+use Rattle.try_place.proofs.Meaning.{chosen-below}
 use Rattle.try_place.proofs.Refusing.{fit-passes, fit-placed}
 
 -- b does not reach past s on any side
@@ -33,29 +34,18 @@ pub record ThreeWithin (s : BinSection) (t : List BinSection) : Type 0 where
   pub second : BoxWithin s (getD t 1 zeroSection)
   pub third : BoxWithin s (getD t 2 zeroSection)
 
-pub row-within : (s : BinSection) (r : RectToInsert) (k : ℕ) → Fitting s r → k < 6 → ThreeWithin s (getD (sixSplits s r) k [])
+pub row-within : (s : BinSection) (r : RectToInsert) → Fitting s r → (k : ℕ) → k < 6 → ThreeWithin s (getD (sixSplits s r) k [])
 unfolding sixSplits
-row-within s r zero f h = omega arith
-row-within s r (suc zero) f h = omega arith
-row-within s r (suc (suc zero)) f h = omega arith
-row-within s r (suc (suc (suc zero))) f h = omega arith
-row-within s r (suc (suc (suc (suc zero)))) f h = omega arith
-row-within s r (suc (suc (suc (suc (suc zero))))) f h = omega arith
-row-within s r (suc (suc (suc (suc (suc (suc k)))))) f h = absurd (omega arith)
+row-within s r f =
+    of-six (λ k. ThreeWithin s (getD (sixSplits s r) k [])) (omega arith) (omega arith) (omega arith) (omega arith) (omega arith) (omega arith)
 
 pub row-long : (s : BinSection) (r : RectToInsert) (k : ℕ) → k < 6 → length (getD (sixSplits s r) k []) ≡ 3
 unfolding sixSplits
-row-long s r zero h = refl
-row-long s r (suc zero) h = refl
-row-long s r (suc (suc zero)) h = refl
-row-long s r (suc (suc (suc zero))) h = refl
-row-long s r (suc (suc (suc (suc zero)))) h = refl
-row-long s r (suc (suc (suc (suc (suc zero))))) h = refl
-row-long s r (suc (suc (suc (suc (suc (suc k)))))) h = absurd (omega arith)
+row-long s r = of-six (λ k. length (getD (sixSplits s r) k []) ≡ 3) refl refl refl refl refl refl
 
 -- the chosen three of a section that fits are small
 pub chosen-small : (s : BinSection) (r : RectToInsert) → Fitting s r → SmallBoxes (placedOf s r .sections)
-chosen-small s r f = let w = row-within s r (chosen (sixSplits s r)) f (chosen-below (sixSplits s r)) in omega arith
+chosen-small s r f = let w = row-within s r f (chosen (sixSplits s r)) (chosen-below (sixSplits s r)) in omega arith
 
 pub within-reachable : (s b : BinSection) → Reachable s → BoxWithin s b → Reachable b
 within-reachable s b p w = omega arith
@@ -82,7 +72,7 @@ module _ (s : BinSection) (r : RectToInsert) (l : PackedLocation) (p : Reachable
 
   pub placed-within : ThreeWithin s (fitOf s r .sections)
   placed-within =
-      rw (ap (λ (t : Tried). t .sections) placed-is) (row-within s r (chosen (sixSplits s r)) placed-fitting (chosen-below (sixSplits s r)))
+      rw (ap (λ (t : Tried). t .sections) placed-is) (row-within s r placed-fitting (chosen (sixSplits s r)) (chosen-below (sixSplits s r)))
 
   pub placed-three : length (fitOf s r .sections) ≡ 3
   placed-three = rw (ap (λ (t : Tried). t .sections) placed-is) (row-long s r (chosen (sixSplits s r)) (chosen-below (sixSplits s r)))
