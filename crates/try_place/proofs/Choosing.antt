@@ -77,13 +77,12 @@ module _ (t : List (List BinSection)) where
 -- The state of the choice: b is the best of the first i of the six.
 pub record Chosen (t : List (List BinSection)) (i : ℕ) (b : Ranked) : Type 0 where
   pub some : 0 < i
-  pub within : i ≤ 6
   pub best : b ≡ bestOf (take i (ranksOf t))
 
 module _ (t : List (List BinSection)) where
   pub chosen-one : (b : Ranked) → b ≡ rankSplit (getD t 0 []) 0 → Chosen t 1 b
   chosen-one b e =
-      record { some = omega arith; within = omega arith; best = e ∙ sym (rank-at t 0 (omega arith)) ∙ best-one (ranksOf t) (omega (arith, six-long t)) }
+      record { some = omega arith; best = e ∙ sym (rank-at t 0 (omega arith)) ∙ best-one (ranksOf t) (omega (arith, six-long t)) }
 
   pub chosen-more :
       (i : ℕ) (b n c : Ranked)
@@ -93,11 +92,7 @@ module _ (t : List (List BinSection)) where
       → c ≡ laterOf b n
       → Chosen t (i + 1) c
   chosen-more i b n c w h e l =
-      record {
-        some = omega arith;
-        within = omega arith;
-        best = cc (best-more (ranksOf t) i (w .some) (omega (arith, six-long t)), w .best, rank-at t i h);
-      }
+      record { some = omega arith; best = cc (best-more (ranksOf t) i (w .some) (omega (arith, six-long t)), w .best, rank-at t i h) }
 
   pub chosen-all : (i : ℕ) (b : Ranked) → Chosen t i b → 6 ≤ i → b .index ≡ chosen t
   unfolding chosen

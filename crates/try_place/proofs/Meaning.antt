@@ -143,5 +143,6 @@ one-choice xs n p q v w = elim (decLt p q) [
   ]
 ]
 
+-- the chosen place is one of the six
 pub chosen-below : (t : List (List BinSection)) → chosen t < 6
 chosen-below t = chosen-is t .within
