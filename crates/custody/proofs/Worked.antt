@@ -35,8 +35,8 @@ use Rattle.grouped_rects_to_place.specs.Checks.{badRect, repeatedId}
 use Rattle.grouped_rects_to_place.specs.Groups.{sameGroup, leadOf, isLead, share, groupVolume, keyWith, comesBefore, earlier, groupOrder, groupsOf}
 use Rattle.packing_rules.specs.Rules.{placeFrom, placeOne, placeAll, placeGroup}
 use Rattle.packing_rules.specs.Order as order
-use Rattle.packing_rules.specs.Seats.{seated}
-use Rattle.packing_rules.specs.Packing.{rectsAt, trialIn, firstWhole, changed, packGroups, noRoom, start, packing}
+use Rattle.packing_rules.specs.Seats.{seated, dealt}
+use Rattle.packing_rules.specs.Packing.{rectsAt, trialIn, firstWhole, placeGroups, answerOf, packGroups, mostSections, noRoom, start, packing}
 use Rattle.rectangle_pack.specs.Pack.{rectLengthsOk, rectChecks, packChecks, binsWith, PackOutcome, packOutcome, written, packOf}
 use Rattle.audit.specs.Audit as audit
 use Rattle.custody.specs.Ledger.{placedIn, recordBox, newBoxes, places, Ledger, nothing, afterPack, In, first, sameBox, takenOut, afterReturn}
@@ -145,7 +145,7 @@ unfolding lowest anyBelow picked sumTo tab removeAt put sectionAt spansMeet over
     chamberOf pushChecks returnChecks returned returnOf
     placementAt rectAt badRect repeatedId sameGroup leadOf isLead share groupVolume keyWith comesBefore earlier groupOrder groupsOf
     placeFrom placeOne placeAll placeGroup order.goesBefore order.triedBefore order.trialOrder seated
-    rectsAt trialIn firstWhole changed packGroups rectLengthsOk noRoom rectChecks packChecks start packing binsWith written packOf
+    rectsAt trialIn firstWhole placeGroups answerOf dealt packGroups rectLengthsOk mostSections noRoom rectChecks packChecks start packing binsWith written packOf
     placedIn recordBox newBoxes places afterPack sameBox takenOut afterReturn
     lentChambers lentStore three faulty two returnedBox chamberWith free₀ free₁ free₄ free₅ records₁ records₅
     auditAt audit.auditBoxes audit.boxListsOk sharesEarlier audit.auditReply audit.shownOf

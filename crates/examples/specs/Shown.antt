@@ -38,8 +38,8 @@ use Rattle.grouped_rects_to_place.specs.Rect.{rectAt}
 use Rattle.grouped_rects_to_place.specs.Checks.{badRect, repeatedId}
 use Rattle.grouped_rects_to_place.specs.Groups.{sameGroup, leadOf, isLead, share, groupVolume, keyWith, comesBefore, earlier, groupOrder, groupsOf}
 use Rattle.packing_rules.specs.Order as order
-use Rattle.packing_rules.specs.Seats.{seated}
-use Rattle.packing_rules.specs.Packing.{rectsAt, trialIn, firstWhole, changed, packGroups, noRoom, start, packing}
+use Rattle.packing_rules.specs.Seats.{seated, dealt}
+use Rattle.packing_rules.specs.Packing.{rectsAt, trialIn, firstWhole, placeGroups, answerOf, packGroups, mostSections, noRoom, start, packing}
 use Rattle.rectangle_pack.specs.Pack.{PackOutcome, rectLengthsOk, rectChecks, packChecks, binsWith, written, packOf}
 use Rattle.audit.specs.Audit as auditing
 
@@ -95,7 +95,7 @@ unfolding lowest anyBelow picked sumTo tab removeAt inOrder sectionAt spanInside
     rectAt badRect repeatedId sameGroup leadOf isLead share groupVolume keyWith comesBefore earlier groupOrder groupsOf
     fitChecks fitOf sixSplits chosen ranksOf bestOf bestFrom laterOf betterOf appendedOf larger keptOne kept insertBy insertAll
     placeFrom placeOne placeAll placeGroup order.goesBefore order.triedBefore order.trialOrder seated
-    rectsAt trialIn firstWhole changed packGroups rectLengthsOk noRoom rectChecks packChecks start packing binsWith written packOf
+    rectsAt trialIn firstWhole placeGroups answerOf dealt packGroups rectLengthsOk mostSections noRoom rectChecks packChecks start packing binsWith written packOf
 packShown t rects placements = packOf (t .chambers) (t .store) rects placements
 
 -- of a pack, the reply alone

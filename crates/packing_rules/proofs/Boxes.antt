@@ -28,10 +28,10 @@ use Rattle.grouped_rects_to_place.specs.Rect.{rectAt, rectCount}
 use Rattle.grouped_rects_to_place.proofs.Checking.{rects-range}
 use Rattle.grouped_rects_to_place.proofs.Sizes.{groups-each}
 use Rattle.packing_rules.specs.Order.{trialOrder}
-use Rattle.packing_rules.specs.Packing.{State, rectsAt, trialIn, packGroups, start, packing}
+use Rattle.packing_rules.specs.Packing.{rectsAt, trialIn, State, packGroups, start, packing}
 use Rattle.packing_rules.specs.Promises.{locationBox, BoxesAre}
 use Rattle.packing_rules.proofs.Placings.{group-placings}
-use Rattle.packing_rules.proofs.Left.{Sided, placings-left, inside-reachable, inside-passes}
+use Rattle.packing_rules.proofs.Left.{Sided, placings-free, placings-boxes, inside-reachable, inside-passes}
 use Rattle.packing_rules.proofs.Seats.{empty-seat, seated-cases}
 use Rattle.packing_rules.proofs.TrialOrders.{trial-below}
 use Rattle.packing_rules.proofs.Turns.{by-turns}
@@ -67,15 +67,17 @@ module _
         (λ g gs s t ls free q e rest vs a.
         let k = getD order t 0 in
         let h : k < n = each-at below t 0 (q .within) in
-        let w = placings-left (P k) (reach k h) (passes k) (group-placings (getD (s .frees) k []) (rectsAt r g) ls free e) (rects-sided r (each-head vs)) (a .frees-are k h) in
+        let p = group-placings (getD (s .frees) k []) (rectsAt r g) ls free e in
+        let left = placings-free (P k) (reach k h) (passes k) p (a .frees-are k h) in
+        let boxes = placings-boxes (P k) (reach k h) (passes k) p (rects-sided r (each-head vs)) (a .frees-are k h) in
         rest (each-tail vs)
         (record {
-          frees-are = λ j b. ⊎-elim (λ f. rw f (a .frees-are j b)) (λ f. rw (f .1, f .0) (w .0)) (set-cases (s .frees) k free j []);
+          frees-are = λ j b. ⊎-elim (λ f. rw f (a .frees-are j b)) (λ f. rw (f .1, f .0) left) (set-cases (s .frees) k free j []);
           boxes-are = record {
             at = λ i id l f.
                 ⊎-elim (λ u. a .boxes-are .at i id l (sym u ∙ f))
                 (λ u. let x : id ≡ ids k = cc in let y : u .0 ≡ l = cc in (k, h, x, rw y at (u .1)))
-                (seated-cases (λ m. P k (locationBox m)) (ids k) g (s .seats) i (w .1));
+                (seated-cases (λ m. P k (locationBox m)) (ids k) g (s .seats) i boxes);
           };
         }))
 

@@ -89,16 +89,23 @@ module _ (P : BinSection → Type 0) (reach : (s : BinSection) → P s → Reach
         let s = getD free (q .0) zeroSection in
         rw (q .1 .here) (passes s (locationBox (locationIn s r)) (each-at ps (q .0) zeroSection (q .1 .within)) (omega (arith, q .1 .fits)) v)
 
-  pub placings-left :
+  pub placings-free :
+      {free free′ : List BinSection} {rs : List RectToInsert} {ls : List PackedLocation}
+      → Placings free rs ls free′
+      → Each P free
+      → Each P free′
+  placings-free no-more ps = ps
+  placings-free (then {free} {mid} {free′} {r} {rs} {l} e p) ps = placings-free p (one-left free r l mid e ps)
+
+  pub placings-boxes :
       {free free′ : List BinSection} {rs : List RectToInsert} {ls : List PackedLocation}
       → Placings free rs ls free′
       → Each (λ r. Sided (r .whd)) rs
       → Each P free
-      → Each P free′ × Each (λ l. P (locationBox l)) ls
-  placings-left no-more vs ps = (ps, none)
-  placings-left (then {free} {mid} {free′} {r} {rs} {l} e p) (also v vs) ps =
-      let q = placings-left p vs (one-left free r l mid e ps) in
-      (q .0, also (one-box free r l mid e ps v) (q .1))
+      → Each (λ l. P (locationBox l)) ls
+  placings-boxes no-more vs ps = none
+  placings-boxes (then {free} {mid} {free′} {r} {rs} {l} e p) (also v vs) ps =
+      also (one-box free r l mid e ps v) (placings-boxes p vs (one-left free r l mid e ps))
 
 -- such a fact is that a section lies inside the chamber
 module _ (whd : WidthHeightDepth) where

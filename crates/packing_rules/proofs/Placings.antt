@@ -95,10 +95,10 @@ pub data Placings : List BinSection → List RectToInsert → List PackedLocatio
       → Placings mid rs ls free′
       → Placings free (r ∷ rs) (l ∷ ls) free′
 
-all-stops : (xs : List RectToInsert) → placeAll stops xs ≡ stops
+all-stops : (i : ℕ) (free : List BinSection) (xs : List RectToInsert) → placeAll (stops i free) xs ≡ stops i free
 unfolding placeAll
-all-stops [] = refl
-all-stops (x ∷ xs) = all-stops xs
+all-stops i free [] = refl
+all-stops i free (x ∷ xs) = all-stops i free xs
 
 all-placings :
     (before ls : List PackedLocation) (free free′ : List BinSection) (rs : List RectToInsert)
@@ -110,8 +110,8 @@ all-placings before ls free free′ [] e =
     let q : free ≡ free′ = cc in
     ([], p ∙ sym (append-nil before), rw q no-more)
 all-placings before ls free free′ (r ∷ rs) e =
-    elim (placeOne free r) as (λ o. placeOne free r ≡ o → placeAll (afterOne before o) rs ≡ whole ls free′ → (new : List PackedLocation) × (ls ≡ before ++ new) × Placings free (r ∷ rs) new free′) [
-      | nowhere ↦ λ o f. let z : _≡_ {A = ℕ} 0 1 = cc (all-stops rs) in absurd (omega arith)
+    elim (placeOne free r) as (λ o. placeOne free r ≡ o → placeAll (afterOne before free o) rs ≡ whole ls free′ → (new : List PackedLocation) × (ls ≡ before ++ new) × Placings free (r ∷ rs) new free′) [
+      | nowhere ↦ λ o f. let z : _≡_ {A = ℕ} 0 1 = cc (all-stops (length before) free rs) in absurd (omega arith)
       | placed l mid ↦ λ o f.
           let q = all-placings (before ++ (l ∷ [])) ls mid free′ rs f in
           (l ∷ q .0, q .1 ∙ append-assoc before (l ∷ []) (q .0), then o (q .2))
@@ -148,7 +148,10 @@ module _ (r : ℕ → RectToPlace) where
   trial-more t [] i = refl
   trial-more t (x ∷ xs) i = trial-more (next t (record { whd = r x .whd })) xs i
 
-  pub trial-stops : (t : Trial) (xs ys : List ℕ) → placeAll t (rectsAt r xs) ≡ stops → placeAll t (rectsAt r (xs ++ ys)) ≡ stops
+  pub trial-stops :
+      (t : Trial) (i : ℕ) (free : List BinSection) (xs ys : List ℕ)
+      → placeAll t (rectsAt r xs) ≡ stops i free
+      → placeAll t (rectsAt r (xs ++ ys)) ≡ stops i free
   unfolding placeAll rectsAt
-  trial-stops t [] ys e = rw e (all-stops (rectsAt r ys))
-  trial-stops t (x ∷ xs) ys e = trial-stops (next t (record { whd = r x .whd })) xs ys e
+  trial-stops t i free [] ys e = rw e (all-stops i free (rectsAt r ys))
+  trial-stops t i free (x ∷ xs) ys e = trial-stops (next t (record { whd = r x .whd })) i free xs ys e

@@ -20,11 +20,11 @@ use Rattle.grouped_rects_to_place.specs.Rect.{rectAt, rectCount}
 use Rattle.grouped_rects_to_place.specs.Groups.{groupsOf}
 use Rattle.grouped_rects_to_place.proofs.Sizes.{Group, groups-each, ungrouped-alone}
 use Rattle.packing_rules.specs.Order.{trialOrder}
-use Rattle.packing_rules.specs.Rules.{nowhere, placed, placeOne, afterOne, placeAll, placeGroup}
-use Rattle.packing_rules.specs.Packing.{State, rectsAt, trialIn, isWhole, Ended, ended, packGroups, start, packing}
+use Rattle.packing_rules.specs.Rules.{nowhere, placed, placeOne, afterOne, placeAll, placeGroup, isWhole}
+use Rattle.packing_rules.specs.Packing.{rectsAt, trialIn, State, Ended, ended, packGroups, start, packing}
 use Rattle.packing_rules.specs.Promises.{NoSectionFits, NoneServes, RefusedAt}
 use Rattle.packing_rules.proofs.Placings.{placed-at, nowhere-at}
-use Rattle.packing_rules.proofs.Turns.{not-whole, turn-served, turn-refused, no-turn, changed-is, by-turns}
+use Rattle.packing_rules.proofs.Turns.{turn-served, turn-refused, no-turn, by-turns}
 
 -- ---- the refused group
 
@@ -48,7 +48,7 @@ module _ (order : List ℕ) (ids : ℕ → ℕ) (r : ℕ → RectToPlace) where
         q .2,
         record {
           among = ap (λ (l : List (List ℕ)). g ∷ l) (q .3 .among);
-          stay = turn-served order ids r g (q .0) s t p ∙ ap (packGroups order ids r (q .0)) (changed-is ids r g s (getD order t 0) ls free e) ∙ q .3 .stay;
+          stay = turn-served order ids r g (q .0) s t ls free p e ∙ q .3 .stay;
           seven = q .3 .seven;
           none-serves = q .3 .none-serves;
         },
@@ -64,13 +64,13 @@ module _ (order : List ℕ) (ids : ℕ → ℕ) (r : ℕ → RectToPlace) where
       (λ s a. refl)
       (λ g gs s p a. let z : _≡_ {A = ℕ} 7 0 = ap (λ (x : Reply). x .number) a in absurd (omega arith))
       (λ g gs s t ls free p e rest a.
-      turn-served order ids r g (gs ++ hs) s t p ∙ ap (packGroups order ids r (gs ++ hs)) (changed-is ids r g s (getD order t 0) ls free e) ∙ rest a)
+      turn-served order ids r g (gs ++ hs) s t ls free p e ∙ rest a)
 
   -- the other way round: a group that none serves once those before it are placed ends the packing, and they stay as they were placed
   pub earlier-stay :
       (gs hs : List (List ℕ)) (g : List ℕ) (s : State)
       → packGroups order ids r gs s .reply ≡ reply 0 0
-      → NoneServes order r g (packGroups order ids r gs s .after .frees)
+      → NoneServes order (rectsAt r g) (packGroups order ids r gs s .after .frees)
       → packGroups order ids r (gs ++ (g ∷ hs)) s ≡ ended (reply 7 (getD g 0 0)) (packGroups order ids r gs s .after)
   earlier-stay gs hs g s e p = packed-then (g ∷ hs) gs s e ∙ turn-refused order ids r g hs (packGroups order ids r gs s .after) p
 
@@ -104,22 +104,22 @@ module _ (r : ℕ → RectToPlace) (i : ℕ) where
   -- it goes into a chamber exactly when a free section there fits it
   alone-whole :
       (frees : List (List BinSection)) (k : ℕ)
-      → (isWhole (trialIn r (i ∷ []) frees k) ≡ true)
+      → (isWhole (trialIn (rectsAt r (i ∷ [])) frees k) ≡ true)
       ↔ ((j : ℕ) × (j < length (getD frees k [])) × Fits (getD (getD frees k []) j zeroSection) (rectOf r i))
   unfolding trialIn rectsAt placeGroup placeAll
   alone-whole frees k =
       let free = getD frees k [] in
-      elim (placeOne free (rectOf r i)) as (λ o. placeOne free (rectOf r i) ≡ o → (isWhole (afterOne [] o) ≡ true) ↔ ((j : ℕ) × (j < length free) × Fits (getD free j zeroSection) (rectOf r i))) [
+      elim (placeOne free (rectOf r i)) as (λ o. placeOne free (rectOf r i) ≡ o → (isWhole (afterOne [] free o) ≡ true) ↔ ((j : ℕ) × (j < length free) × Fits (getD free j zeroSection) (rectOf r i))) [
         | nowhere ↦ λ e. (λ t. absurd (true-false (sym t)), λ f. absurd (nowhere-at free (rectOf r i) e .at (f .0) (f .1) (f .2)))
         | placed l free′ ↦ λ e. let p = placed-at free (rectOf r i) l free′ e in (λ t. (p .0, p .1 .within, p .1 .fits), λ f. refl)
       ]
       refl
 
   -- "7 at its turn exactly when no free section of any chamber fits it"
-  alone-refused : (order : List ℕ) (frees : List (List BinSection)) → NoneServes order r (i ∷ []) frees ↔ NoSectionFits order (rectOf r i) frees
+  alone-refused : (order : List ℕ) (frees : List (List BinSection)) → NoneServes order (rectsAt r (i ∷ [])) frees ↔ NoSectionFits order (rectOf r i) frees
   alone-refused order frees = (
-    λ p. record { at = λ t j h l f. true-false (sym (alone-whole frees (getD order t 0) .1 (j, l, f)) ∙ ap isWhole (p .at t h)) },
-    λ p. record { at = λ t h. not-whole _ (false-of _ (λ e. let f = alone-whole frees (getD order t 0) .0 e in p .at t (f .0) h (f .1) (f .2))) },
+    λ p. record { at = λ t j h l f. true-false (sym (alone-whole frees (getD order t 0) .1 (j, l, f)) ∙ p .at t h) },
+    λ p. record { at = λ t h. false-of _ (λ e. let f = alone-whole frees (getD order t 0) .0 e in p .at t (f .0) h (f .1) (f .2)) },
   )
 
 -- so it is of the ungrouped rectangles of a table
@@ -127,6 +127,6 @@ pub ungrouped-refused :
     (n : ℕ) (r : ℕ → RectToPlace) (g : List ℕ) (lead : ℕ) (order : List ℕ) (frees : List (List BinSection))
     → Group n r g lead
     → r lead .group ≡ 0
-    → NoneServes order r g frees ↔ NoSectionFits order (rectOf r lead) frees
+    → NoneServes order (rectsAt r g) frees ↔ NoSectionFits order (rectOf r lead) frees
 ungrouped-refused n r g lead order frees p z =
     rw (p .is ∙ ungrouped-alone n r lead (p .lead-below) z) (alone-refused r lead order frees)

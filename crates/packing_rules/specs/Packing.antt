@@ -1,7 +1,7 @@
 -- "Packing": groups in their order, each into the first chamber where all of it fits.
 use Prim.Native.Nat.{ℕ, _+_, _*_}
 use mathlib.Core.List.{List, [], _∷_, map}
-use mathlib.Core.Bool.{Bool, true, false, cond}
+use mathlib.Core.Bool.{Bool, cond}
 use lib.Dec.{ltb}
 use lib.ListN.{length, getD, set, replicate}
 use Rattle.lists.specs.Lowest.{lowest}
@@ -15,8 +15,53 @@ use Rattle.grouped_rects_to_place.specs.declared.rect_to_place.RectToPlace.{Rec
 use Rattle.grouped_rects_to_place.specs.Rect.{rectAt, rectCount}
 use Rattle.grouped_rects_to_place.specs.Groups.{groupsOf}
 use Rattle.packing_rules.specs.Order.{trialOrder}
-use Rattle.packing_rules.specs.Rules.{Trial, stops, whole, placeGroup}
-use Rattle.packing_rules.specs.Seats.{Seat, unplaced, seated}
+use Rattle.packing_rules.specs.Rules.{Trial, placeGroup, isWhole, locationsOf, freeThen}
+use Rattle.packing_rules.specs.Seats.{Home, home, Seat, unplaced, dealt}
+
+-- ---- Groups as lists of rectangles: where each goes.
+
+-- "A group is tried in each chamber in turn": the trial in the chamber at k
+unfoldable pub trialIn : List RectToInsert → List (List BinSection) → ℕ → Trial
+trialIn group frees k = placeGroup (getD frees k []) group
+
+-- "The first chamber where all fit": its place in the trial order; the number of chambers "If none serves"
+unfoldable pub firstWhole : List ℕ → List RectToInsert → List (List BinSection) → ℕ
+firstWhole order group frees = lowest (length order) (λ t. isWhole (trialIn group frees (getD order t 0)))
+
+-- the homes of the groups that were served, which are the first ones, and the free sections of each chamber
+pub record Housed : Type 0 where
+  pub homes : List Home
+  pub frees : List (List BinSection)
+
+abbrev pub housed : List Home → List (List BinSection) → Housed
+housed homes frees = record { homes = homes; frees = frees }
+
+-- one group more was served before all these
+abbrev pub after : Home → Housed → Housed
+after h p = housed (h ∷ p .homes) (p .frees)
+
+-- "The first chamber where all fit is changed so; others aren't. If none serves, .. the later groups are not tried, and earlier groups stay."
+unfoldable pub placeGroups : List ℕ → List (List RectToInsert) → List (List BinSection) → Housed
+placeGroups order [] frees = housed [] frees
+placeGroups order (group ∷ groups) frees =
+    let t = firstWhole order group frees in
+    let k = getD order t 0 in
+    let trial = trialIn group frees k in
+    cond (ltb t (length order))
+    (after (home k (locationsOf trial)) (placeGroups order groups (set frees k (freeThen trial))))
+    (housed [] frees)
+
+-- ---- Groups as lists of indices: the answer, and the seats dealt out.
+
+-- the rectangles of a group, which is given by their indices in table order
+unfoldable pub rectsAt : (ℕ → RectToPlace) → List ℕ → List RectToInsert
+rectsAt r group = map (λ i. record { whd = r i .whd }) group
+
+-- "If none serves, the answer is 7", with the first index of the group that has no home
+unfoldable pub answerOf : List (List ℕ) → List Home → Reply
+answerOf [] homes = reply 0 0
+answerOf (group ∷ groups) [] = reply 7 (getD group 0 0)
+answerOf (group ∷ groups) (h ∷ homes) = answerOf groups homes
 
 -- the free sections of each chamber, and the seat of each rectangle
 pub record State : Type 0 where
@@ -26,30 +71,6 @@ pub record State : Type 0 where
 abbrev pub state : List (List BinSection) → List Seat → State
 state frees seats = record { frees = frees; seats = seats }
 
--- the rectangles of a group, which is given by their indices in table order
-unfoldable pub rectsAt : (ℕ → RectToPlace) → List ℕ → List RectToInsert
-rectsAt r group = map (λ i. record { whd = r i .whd }) group
-
--- "A group is tried in each chamber in turn"
-unfoldable pub trialIn : (ℕ → RectToPlace) → List ℕ → List (List BinSection) → ℕ → Trial
-trialIn r group frees k = placeGroup (getD frees k []) (rectsAt r group)
-
-abbrev pub isWhole : Trial → Bool
-isWhole stops = false
-isWhole (whole locations free) = true
-
--- "The first chamber where all fit": its place in the trial order; the number of chambers "If none serves"
-unfoldable pub firstWhole : List ℕ → (ℕ → RectToPlace) → List ℕ → List (List BinSection) → ℕ
-firstWhole order r group frees = lowest (length order) (λ t. isWhole (trialIn r group frees (getD order t 0)))
-
--- the chamber "is changed so; others aren't"
-abbrev pub changedBy : Trial → ℕ → ℕ → List ℕ → State → State
-changedBy stops id k group s = s
-changedBy (whole locations free) id k group s = state (set (s .frees) k free) (seated id group locations (s .seats))
-
-unfoldable pub changed : (ℕ → RectToPlace) → ℕ → ℕ → List ℕ → State → State
-changed r id k group s = changedBy (trialIn r group (s .frees) k) id k group s
-
 pub record Ended : Type 0 where
   pub reply : Reply
   pub after : State
@@ -57,13 +78,11 @@ pub record Ended : Type 0 where
 abbrev pub ended : Reply → State → Ended
 ended answer after = record { reply = answer; after = after }
 
--- "If none serves, the answer is 7, the later groups are not tried, and earlier groups stay." ids: the id of each chamber
+-- the groups in their order, from a state. ids: the id of each chamber
 unfoldable pub packGroups : List ℕ → (ℕ → ℕ) → (ℕ → RectToPlace) → List (List ℕ) → State → Ended
-packGroups order ids r [] s = ended (reply 0 0) s
-packGroups order ids r (group ∷ groups) s =
-    let t = firstWhole order r group (s .frees) in
-    let k = getD order t 0 in
-    cond (ltb t (length order)) (packGroups order ids r groups (changed r (ids k) k group s)) (ended (reply 7 (getD group 0 0)) s)
+packGroups order ids r groups s =
+    let p = placeGroups order (map (rectsAt r) groups) (s .frees) in
+    ended (answerOf groups (p .homes)) (state (p .frees) (dealt ids groups (p .homes) (s .seats)))
 
 -- ---- From lent tables.
 
@@ -77,6 +96,10 @@ packing chambers store rects =
     packGroups (trialOrder chambers) (λ k. chamberAt chambers k .id) (rectAt rects) (groupsOf (rectCount rects) (rectAt rects))
     (start chambers store rects)
 
--- 6: "free count + 2 x rectangles of the call is above 128", so that the packing could overflow the store
+-- "free count + 2 x rectangles of the call": as many sections as a chamber can come to have
+unfoldable pub mostSections : ℕ → ℕ → ℕ
+mostSections count n = count + 2 * n
+
+-- 6: it "is above 128", so that the packing could overflow the store
 unfoldable pub noRoom : List ℕ → ℕ → ℕ → Bool
-noRoom chambers n k = ltb 128 (chamberAt chambers k .count + 2 * n)
+noRoom chambers n k = ltb 128 (mostSections (chamberAt chambers k .count) n)

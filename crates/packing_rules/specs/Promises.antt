@@ -2,7 +2,7 @@
 use Prim.Native.Nat.{ℕ, _<_}
 use mathlib.Core.Path.{_≡_}
 use mathlib.Core.List.{List, [], _∷_, _++_}
-use mathlib.Core.Bool.{true}
+use mathlib.Core.Bool.{true, false}
 use lib.ListN.{length, getD}
 use Rattle.lists.specs.Sort.{Each}
 use Rattle.bin_section.specs.declared.rect_to_insert.RectToInsert.{RectToInsert}
@@ -11,24 +11,24 @@ use Rattle.replies.specs.Replies.{reply}
 use Rattle.bin_section.specs.Section.{section, zeroSection}
 use Rattle.try_place.specs.declared.packed_location.PackedLocation.{PackedLocation}
 use Rattle.try_place.specs.Try.{Fits}
-use Rattle.packing_rules.specs.Rules.{stops}
+use Rattle.packing_rules.specs.Rules.{isWhole}
 use Rattle.grouped_rects_to_place.specs.declared.rect_to_place.RectToPlace.{RectToPlace}
 use Rattle.packing_rules.specs.Seats.{Seat, unplaced, seat}
-use Rattle.packing_rules.specs.Packing.{State, trialIn, isWhole, Ended, ended, packGroups}
+use Rattle.packing_rules.specs.Packing.{trialIn, rectsAt, State, Ended, ended, packGroups}
 
 -- "no free section of any chamber fits it"
 pub record NoSectionFits (order : List ℕ) (r : RectToInsert) (frees : List (List BinSection)) : Type 0 where
   pub at : (t j : ℕ) → t < length order → j < length (getD frees (getD order t 0) []) → Fits (getD (getD frees (getD order t 0) []) j zeroSection) r → ⊥
 
 -- "The first chamber where all fit" is at place t of the trial order
-pub record Serves (order : List ℕ) (r : ℕ → RectToPlace) (group : List ℕ) (frees : List (List BinSection)) (t : ℕ) : Type 0 where
+pub record Serves (order : List ℕ) (group : List RectToInsert) (frees : List (List BinSection)) (t : ℕ) : Type 0 where
   pub within : t < length order
-  pub earlier-stop : (u : ℕ) → u < t → trialIn r group frees (getD order u 0) ≡ stops
-  pub all-fit : isWhole (trialIn r group frees (getD order t 0)) ≡ true
+  pub earlier-stop : (u : ℕ) → u < t → isWhole (trialIn group frees (getD order u 0)) ≡ false
+  pub all-fit : isWhole (trialIn group frees (getD order t 0)) ≡ true
 
 -- "If none serves"
-pub record NoneServes (order : List ℕ) (r : ℕ → RectToPlace) (group : List ℕ) (frees : List (List BinSection)) : Type 0 where
-  pub at : (t : ℕ) → t < length order → trialIn r group frees (getD order t 0) ≡ stops
+pub record NoneServes (order : List ℕ) (group : List RectToInsert) (frees : List (List BinSection)) : Type 0 where
+  pub at : (t : ℕ) → t < length order → isWhole (trialIn group frees (getD order t 0)) ≡ false
 
 -- "If none serves, the answer is 7, the later groups are not tried, and earlier groups stay": the groups before the refused one were
 -- all placed, and nothing has changed since. e: how the packing of the groups ended
@@ -36,7 +36,7 @@ pub record RefusedAt (order : List ℕ) (ids : ℕ → ℕ) (r : ℕ → RectToP
   pub among : groups ≡ earlier ++ (refused ∷ later)
   pub stay : packGroups order ids r earlier s ≡ ended (reply 0 0) (e .after)
   pub seven : e .reply ≡ reply 7 (getD refused 0 0)
-  pub none-serves : NoneServes order r refused (e .after .frees)
+  pub none-serves : NoneServes order (rectsAt r refused) (e .after .frees)
 
 -- the box that is placed at a location
 abbrev pub locationBox : PackedLocation → BinSection

@@ -1,6 +1,7 @@
 -- "Packing", for one rectangle and for the rectangles of one group in one chamber.
 use Prim.Native.Nat.{ℕ, zero, suc}
 use mathlib.Core.List.{List, [], _∷_, _++_}
+use mathlib.Core.Bool.{Bool, true, false}
 use lib.ListN.{length, getD}
 use Rattle.lists.specs.Tab.{removeAt}
 use Rattle.bin_section.specs.declared.section.BinSection.{BinSection}
@@ -26,18 +27,19 @@ placeFrom free r (suc n) =
 unfoldable pub placeOne : List BinSection → RectToInsert → One
 placeOne free r = placeFrom free r (length free)
 
--- the rectangles of a group: one of them stops the trial, or the whole group goes in, each at its location
+-- the rectangles of a group, one after the other: the trial stops at one of them, which stands at this place of the group, with these
+-- sections free then; or the whole group goes in, each at its location
 pub data Trial : Type 0 where
-  stops : Trial
+  stops : ℕ → List BinSection → Trial
   whole : List PackedLocation → List BinSection → Trial
 
-abbrev pub afterOne : List PackedLocation → One → Trial
-afterOne locations nowhere = stops
-afterOne locations (placed l free) = whole (locations ++ (l ∷ [])) free
+abbrev pub afterOne : List PackedLocation → List BinSection → One → Trial
+afterOne locations free nowhere = stops (length locations) free
+afterOne locations free (placed l left) = whole (locations ++ (l ∷ [])) left
 
 abbrev pub next : Trial → RectToInsert → Trial
-next stops r = stops
-next (whole locations free) r = afterOne locations (placeOne free r)
+next (stops i free) r = stops i free
+next (whole locations free) r = afterOne locations free (placeOne free r)
 
 unfoldable pub placeAll : Trial → List RectToInsert → Trial
 placeAll t [] = t
@@ -46,3 +48,18 @@ placeAll t (r ∷ rs) = placeAll (next t r) rs
 -- "for each rectangle the free sections are tried ..", in table order
 unfoldable pub placeGroup : List BinSection → List RectToInsert → Trial
 placeGroup free rs = placeAll (whole [] free) rs
+
+-- "all fit"
+abbrev pub isWhole : Trial → Bool
+isWhole (stops i free) = false
+isWhole (whole locations free) = true
+
+-- the locations of a group that went in whole
+abbrev pub locationsOf : Trial → List PackedLocation
+locationsOf (stops i free) = []
+locationsOf (whole locations free) = locations
+
+-- the sections that are free when the trial ends
+abbrev pub freeThen : Trial → List BinSection
+freeThen (stops i free) = free
+freeThen (whole locations free) = free

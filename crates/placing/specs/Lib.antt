@@ -1,1 +1,2 @@
 pub mod Leaning
+pub mod Step

@@ -1,12 +1,15 @@
 // The free sections tried from the last to the first.
-ghost use Prim.Native.Nat.{_+_, _*_, _≤_, _<_};
+ghost use Prim.Native.Nat.{_+_, _-_, _*_, _≤_, _<_};
+ghost use mathlib.Core.Path.{_≡_};
+ghost use mathlib.Core.List.{_++_};
 ghost use lib.ListN.{length};
+ghost use Rattle.lists.specs.Tab.{removeAt};
 ghost use Rattle.sections.specs.Sections.{sections};
 ghost use Rattle.bin_section.specs.Section.{sectionAt};
 ghost use Rattle.try_place.specs.Try.{placedOf};
 ghost use Rattle.try_place.specs.Leaning.{Fitting};
 ghost use Rattle.packing_rules.specs.Appended.{appendedOf};
-ghost use Rattle.placing.specs.Leaning.{Replaced, PlacedOne, Reaching};
+ghost use Rattle.placing.specs.Leaning.{RoomAfter, PlacedOne, Reaching};
 use crate::add_new_sections::add_new_sections;
 use bin_section::BinSection;
 use bin_section::RectToInsert;
@@ -30,8 +33,16 @@ pub struct PlacedRect {
 
 // The section at i fits: it is removed, later ones move down one, and the chosen three are appended. Answers the new count.
 fn replace(words: &mut [u32], count: usize, i: usize, incoming: RectToInsert) -> usize
-    requires { ⌜ (count * 6 + 12 ≤ length (now words)) × (i < count) × Fitting (sectionAt (now words) i) incoming ⌝ }
-    ensures { λ n. ⌜ Replaced count i (appendedOf (placedOf (sectionAt (now (words .entry)) i) incoming .sections)) n (now (words .entry)) (now (words .exit)) ⌝ }
+    requires { ⌜
+        (count * 6 ≤ length (now words))
+        × ((count - 1 + length (appendedOf (placedOf (sectionAt (now words) i) incoming .sections))) * 6 ≤ length (now words))
+        × (i < count)
+        × Fitting (sectionAt (now words) i) incoming
+        ⌝ }
+    ensures { λ n. ⌜
+        sections (now (words .exit)) n
+        ≡ removeAt i (sections (now (words .entry)) count) ++ appendedOf (placedOf (sectionAt (now (words .entry)) i) incoming .sections)
+        ⌝ }
 {
     let section = BinSection::read(words, i);
     let three = chosen_three(section, incoming);
@@ -41,7 +52,7 @@ fn replace(words: &mut [u32], count: usize, i: usize, incoming: RectToInsert) ->
 
 // "the free sections are tried from the last to the first, the first that fits is removed"
 pub fn place_rect(words: &mut [u32], count: usize, incoming: RectToInsert) -> PlacedRect
-    requires { ⌜ (count * 6 + 12 ≤ length (now words)) × Reaching count (now words) ⌝ }
+    requires { ⌜ RoomAfter count incoming (now words) × Reaching count (now words) ⌝ }
     ensures { λ p. ⌜ PlacedOne count incoming p (now (words .entry)) (now (words .exit)) ⌝ }
 {
     let mut i = count;

@@ -1,21 +1,29 @@
 -- Laws of pack's checks: which case each of them leads to, and what the tables have once all pass.
 use Prim.Native.Nat.{ℕ, _+_, _*_, _%_, _≤_, _<_}
 use mathlib.Core.Path.{_≡_, refl, sym, ap, _∙_}
-use mathlib.Core.List.{List}
+use mathlib.Core.List.{List, []}
 use mathlib.Core.Bool.{true, false, not, _&&_}
 use native.Mathlib.Omega.{arith}
 use borrow.Author.Tests.{eqb-true, leb-true, eq-eqb, ne-eqb, le-leb, lt-leb, lt-ltb, le-ltb, ltb-false, not-false}
 use lib.Dec.{eqb, leb}
-use lib.ListN.{length}
+use lib.ListN.{length, getD}
+use Rattle.lists.specs.Sort.{Each}
 use Rattle.lists.proofs.Flags.{and-first, and-second, and-no-first, and-no-second}
 use Rattle.lists.proofs.Lowests.{None}
+use Rattle.lists.proofs.Sorts.{each-tab}
 use Rattle.replies.specs.declared.reply.Reply.{Reply}
 use Rattle.replies.specs.Replies.{reply, inOrder}
 use Rattle.bin_section.specs.Leaning.{Small}
+use Rattle.bin_section.specs.Section.{sectionAt}
+use Rattle.bin_section.specs.Inside.{Inside}
+use Rattle.sections.specs.Sections.{sections}
+use Rattle.sections.proofs.Reading.{length-sections}
 use Rattle.bin_section.proofs.Ranges.{range→small}
 use Rattle.target_bin.specs.declared.chamber.TargetBin.{TargetBin}
 use Rattle.target_bin.specs.Chambers.{chamberAt, chamberCount}
 use Rattle.target_bin.specs.Checks.{tableChecks}
+use Rattle.target_bin.specs.Store.{partAt, freeAt, freeOf}
+use Rattle.target_bin.proofs.Parts.{getD-freeOf}
 use Rattle.replies.proofs.Ladders.{AllPass, passes, row-passes, row-fires, past, no-fault}
 use Rattle.target_bin.proofs.Passing.{Sound, tables-sound}
 use Rattle.grouped_rects_to_place.specs.Rect.{rectAt, rectWidth, rectCount}
@@ -23,8 +31,7 @@ use Rattle.placement.specs.Placements.{placementWidth}
 use Rattle.grouped_rects_to_place.specs.Checks.{badRect}
 use Rattle.grouped_rects_to_place.proofs.Checking.{good-rects}
 use Rattle.rectangle_pack.specs.Pack.{rectLengthsOk, rectChecks, packChecks}
-use Rattle.packing_rules.specs.Packing.{noRoom}
-use Rattle.packing_rules.proofs.Left.{inside-reachable}
+use Rattle.packing_rules.specs.Packing.{mostSections, noRoom}
 use Rattle.rectangle_pack.specs.Leaning.{Passed}
 
 -- ---- 1
@@ -85,9 +92,13 @@ module _ (c st rects p : List ℕ) (all : AllPass (packChecks c st rects p)) whe
   unfolding packChecks rectChecks
   none-full = no-fault _ _ (all .1 .1 .1 .1 .1 .1 .0)
 
-  room-at : (k : ℕ) → k < chamberCount c → chamberAt c k .count + 2 * rectCount rects ≤ 128
-  unfolding noRoom
-  room-at k h = ltb-false _ _ (none-full .at k h)
+  room-at : (k : ℕ) → k < chamberCount c → mostSections (length (getD (freeOf c st) k [])) (rectCount rects) ≤ 128
+  unfolding noRoom freeAt
+  room-at k h = rw (getD-freeOf c st k [] h, length-sections (partAt st k) (chamberAt c k .count)) (ltb-false _ _ (none-full .at k h))
+
+  inside-at : (k : ℕ) → k < chamberCount c → Each (Inside (chamberAt c k .whd)) (getD (freeOf c st) k [])
+  unfolding freeAt sections
+  inside-at k h = rw (getD-freeOf c st k [] h) (each-tab (chamberAt c k .count) (sectionAt (partAt st k)) (λ i l. sound-before .all-in .inside k i h l))
 
   lengths-ok : RectLengths rects p
   unfolding packChecks
@@ -100,12 +111,7 @@ module _ (c st rects p : List ℕ) (all : AllPass (packChecks c st rects p)) whe
   passed =
       let l = lengths-ok in
       record {
-        ready = record {
-          shaped = sound-before .shaped;
-          room = room-at;
-          reach = λ k h. record { at = λ i g. inside-reachable _ (small-at k h) _ (sound-before .all-in .inside k i h g) };
-        };
-        small = record { at = small-at };
+        ready = record { shaped = sound-before .shaped; small = small-at; inside = inside-at; room = room-at };
         rects-good = good-rects rects (rectCount rects) (l .few) (omega (arith, l .long)) no-bad;
         rects-long = l .long;
         places-long = l .places;
@@ -114,9 +120,9 @@ module _ (c st rects p : List ℕ) (all : AllPass (packChecks c st rects p)) whe
 -- 6, at one chamber
 module _ (c : List ℕ) (n k : ℕ) (b : TargetBin) (read : b ≡ chamberAt c k) where
   pub too-little : 128 < b .count + 2 * n → noRoom c n k ≡ true
-  unfolding noRoom
+  unfolding noRoom mostSections
   too-little h = lt-ltb 128 (chamberAt c k .count + 2 * n) (omega (arith, ap (λ (x : TargetBin). x .count) read))
 
   pub room-left : b .count + 2 * n ≤ 128 → noRoom c n k ≡ false
-  unfolding noRoom
+  unfolding noRoom mostSections
   room-left h = le-ltb 128 (chamberAt c k .count + 2 * n) (omega (arith, ap (λ (x : TargetBin). x .count) read))

@@ -18,24 +18,19 @@ use Rattle.packing_rules.specs.Seats.{unplaced}
 use Rattle.rectangle_pack.specs.Leaning.{Tidied, GroupsPacked}
 use Rattle.rectangle_pack.proofs.Running.{all-written}
 use Rattle.rectangle_pack.proofs.Tables.{zero-placements}
-use Rattle.rectangle_pack.proofs.Tidying.{tidied-free}
 
+-- the groups are packed, and zeros are set past each count
 pub packing-done :
-    (c st rects p st₁ p₁ : List ℕ) (a : Reply) (c′ st′ p′ : List ℕ)
+    (c st rects p p₁ : List ℕ) (a : Reply) (c′ st′ p′ st″ : List ℕ)
     → length p ≡ rectCount rects * placementWidth
-    → Tidied c st st₁
     → p₁ ≡ replicate (length p) 0
-    → GroupsPacked (rectAt rects) (rectCount rects) a c st₁ p₁ c′ st′ p′
-    → packOutcome a c′ st′ p′ ≡ written c (packing c st rects)
+    → GroupsPacked (rectAt rects) (rectCount rects) a c st p₁ c′ st′ p′
+    → Tidied c′ st′ st″
+    → packOutcome a c′ st″ p′ ≡ written c (packing c st rects)
 unfolding packing start
-packing-done c st rects p st₁ p₁ a c′ st′ p′ long tidy zeros done =
-    let seats = replicate (rectCount rects) unplaced in
-    let w = done .packed seats (zeros ∙ ap (λ (n : ℕ). replicate n 0) long ∙ zero-placements (rectCount rects)) in
-    all-written _ c a c′ st′ p′ w
-    ∙ ap
-    (λ (f : List (List BinSection)).
-    written c (packGroups (trialOrder c) (λ k. chamberAt c k .id) (rectAt rects) (groupsOf (rectCount rects) (rectAt rects)) (state f seats)))
-    (tidied-free c st st₁ tidy)
+packing-done c st rects p p₁ a c′ st′ p′ st″ long zeros done tidy =
+    all-written _ c a c′ st′ p′ st″ (done .same) (done .shaped)
+    (done .packed (replicate (rectCount rects) unplaced) (zeros ∙ ap (λ (n : ℕ). replicate n 0) long ∙ zero-placements (rectCount rects))) tidy
 
 module _ (c st rects p : List ℕ) (r : Reply) (e : r ≡ inOrder (packChecks c st rects p) (λ a. a) (reply 0 0)) where
   -- a check fires

@@ -14,8 +14,7 @@ use Rattle.target_bin.specs.Chambers.{chamberAt, chamberCount}
 use Rattle.target_bin.specs.Leaning.{Shaped, ChangedIn}
 use Rattle.target_bin.specs.Store.{partAt, freeAt, freeOf}
 use Rattle.target_bin.proofs.Parts.{length-partAt, lent-part}
-use Rattle.rectangle_pack.specs.Leaning.{Tidied, Ready}
-use Rattle.rectangle_pack.proofs.Serving.{reaching-same}
+use Rattle.rectangle_pack.specs.Leaning.{Tidied}
 
 pub tail-room : (c st : List ℕ) (k : ℕ) (b : TargetBin) → Shaped c st → k < chamberCount c → b ≡ chamberAt c k → b .count * 6 ≤ length (take (k * 768 + 768 - k * 768) (drop (k * 768) st))
 tail-room c st k b s h e =
@@ -61,6 +60,9 @@ module _ (c st₀ : List ℕ) where
   tidying-all i st t h =
       record { long = t .long; same = t .same; clean = record { zeros = λ k l. t .zeros k (omega arith) } }
 
+  pub tidied-shaped : (st : List ℕ) → Shaped c st₀ → Tidied c st₀ st → Shaped c st
+  tidied-shaped st s t = record { few = s .few; whole = s .whole; long = t .long ∙ s .long; counted = s .counted }
+
   -- the free sections are the same
   pub tidied-free : (st : List ℕ) → Tidied c st₀ st → freeOf c st ≡ freeOf c st₀
   unfolding freeOf freeAt
@@ -70,11 +72,3 @@ module _ (c st₀ : List ℕ) where
       (λ k b.
       let h : k < chamberCount c = omega (arith, length-tab (chamberCount c) (freeAt c st)) in
       getD-tab (chamberCount c) (freeAt c st) k [] h ∙ t .same k h ∙ sym (getD-tab (chamberCount c) (freeAt c st₀) k [] h))
-
-  pub tidied-ready : (m : ℕ) (st : List ℕ) → Ready c st₀ m → Tidied c st₀ st → Ready c st m
-  tidied-ready m st r t =
-      record {
-        shaped = record { few = r .shaped .few; whole = r .shaped .whole; long = t .long ∙ r .shaped .long; counted = r .shaped .counted };
-        room = r .room;
-        reach = λ k h. reaching-same (partAt st k) (partAt st₀ k) (chamberAt c k .count) (t .same k h) (r .reach k h);
-      }

@@ -1,109 +1,111 @@
-// "A group is tried in each chamber in turn": each group into the first chamber where all of it fits.
+// "A group is tried in each chamber in turn": the first chamber where all of it fits keeps the copy on which it was placed.
 ghost use mathlib.Core.Path.{_≡_};
-ghost use Prim.Native.Nat.{_<_};
-ghost use lib.ListN.{length, take};
+ghost use Prim.Native.Nat.{_*_, _≤_, _<_};
+ghost use lib.ListN.{length};
+ghost use Rattle.lists.specs.Sort.{Each};
+ghost use Rattle.sections.specs.Sections.{sections};
 ghost use Rattle.target_bin.specs.Chambers.{chamberCount};
+ghost use Rattle.target_bin.specs.Leaning.{Shaped};
 ghost use Rattle.target_bin.specs.Store.{freeOf};
-ghost use Rattle.grouped_rects_to_place.specs.Rect.{rectAt, rectCount};
-ghost use Rattle.placement.specs.Leaning.{HasPlacements};
-ghost use Rattle.packing_rules.specs.Packing.{trialIn, isWhole};
-ghost use Rattle.rectangle_pack.specs.Leaning.{GroupOf, Indices, Ready, FirstFit, Served, Grouped};
-use crate::trial::commit;
-use crate::trial::copy_sections;
-use crate::trial::trial;
+ghost use Rattle.grouped_rects_to_place.specs.Rect.{rectAt};
+ghost use Rattle.packing_rules.specs.Packing.{rectsAt};
+ghost use Rattle.placing.specs.Leaning.{GroupOf, Ready};
+ghost use Rattle.rectangle_pack.specs.Leaning.{fitOf, FirstFit, KeptIn, Grouped};
+use placing::Step;
+use placing::copy_sections;
+use placing::place_in;
 use target_bin::TargetBin;
 
-// Whether the whole group goes into the chamber. The trial works on a copy of its sections.
-fn goes_in(
-    chambers: &[u32],
-    store: &[u32],
-    k: usize,
-    rects: &[u32],
-    group: &[usize],
-    m: usize,
-    copy: &mut [u32],
-) -> bool
-    requires { ⌜ Ready (now chambers) (now store) m × (k < chamberCount (now chambers)) × GroupOf (now rects) m (now group) × (length (now copy) ≡ 768) ⌝ }
-    ensures { λ b. ⌜ b ≡ isWhole (trialIn (rectAt (now (rects .entry))) (take m (now (group .entry))) (freeOf (now (chambers .entry)) (now (store .entry))) k) ⌝ }
-{
-    let bin = TargetBin::read(chambers, k);
-    let count = bin.count as usize;
-    let start = k * TargetBin::STORE;
-    let end = start + TargetBin::STORE;
-    copy_sections(&store[start..end], count, copy);
-    trial(copy, count, rects, group, m)
+// Where a group goes: into the chamber at this index, which then has so many free sections; or into none.
+pub enum Fit {
+    In(usize, usize),
+    Nowhere,
 }
 
-// "The first chamber where all fit": its place in the order; n if none serves.
+impl Fit {
+    // The chamber at k takes the group, if the step there is whole.
+    fn new(k: usize, step: Step) -> Fit
+        ensures { λ r. ⌜ r ≡ fitOf k step ⌝ }
+    {
+        match step {
+            Step::Whole(count) => Fit::In(k, count),
+            Step::Stops(_, _) => Fit::Nowhere,
+        }
+    }
+}
+
+// "The first chamber where all fit", in the order of the chambers. At each the copy is made anew.
 fn first_fitting(
     chambers: &[u32],
     store: &[u32],
     order: &[usize],
-    n: usize,
     rects: &[u32],
     group: &[usize],
-    m: usize,
     copy: &mut [u32],
-) -> usize
-    requires { ⌜ Ready (now chambers) (now store) m × Indices (chamberCount (now chambers)) n (now order) × GroupOf (now rects) m (now group) × (length (now copy) ≡ 768) ⌝ }
-    ensures { λ t. ⌜ FirstFit (take n (now (order .entry))) (rectAt (now (rects .entry))) (take m (now (group .entry))) (freeOf (now (chambers .entry)) (now (store .entry))) n t ⌝ }
+    table: &mut [u32],
+) -> Fit
+    requires { ⌜
+        Ready (now chambers) (now store) (length (now group))
+        × Each (λ k. k < chamberCount (now chambers)) (now order)
+        × GroupOf (now rects) (now group)
+        × (length (now copy) ≡ 768)
+        × (length (now group) * 6 ≤ length (now table))
+        ⌝ }
+    ensures { λ f. ⌜
+        FirstFit f (now (order .entry)) (rectsAt (rectAt (now (rects .entry))) (now (group .entry))) (freeOf (now (chambers .entry)) (now (store .entry)))
+        (length (now (group .entry))) (now (copy .exit)) (now (table .exit))
+        ⌝ }
 {
+    let n = order.len();
     for t in 0..n {
-        if goes_in(chambers, store, order[t], rects, group, m, copy) {
-            return t;
-        }
+        let k = order[t];
+        let fit = Fit::new(k, place_in(chambers, store, k, rects, group, copy, table));
+        let Fit::Nowhere = fit else {
+            return fit;
+        };
     }
-    n
+    Fit::Nowhere
 }
 
-// The group goes into chamber k, which was tried before.
-fn serve(
-    chambers: &mut [u32],
-    store: &mut [u32],
-    k: usize,
-    rects: &[u32],
-    group: &[usize],
-    m: usize,
-    placements: &mut [u32],
-)
-    requires { ⌜ Ready (now chambers) (now store) m × (k < chamberCount (now chambers)) × GroupOf (now rects) m (now group) × HasPlacements (now placements) (rectCount (now rects)) ⌝ }
-    ensures { λ _. ⌜ Served (rectAt (now (rects .entry))) (take m (now (group .entry))) k (now (chambers .entry)) (now (store .entry)) (now (placements .entry)) (now (chambers .exit)) (now (store .exit)) (now (placements .exit)) ⌝ }
+// The copy is kept: its first n sections are those of the chamber at k from now on.
+fn keep(chambers: &mut [u32], store: &mut [u32], k: usize, copy: &[u32], n: usize)
+    requires { ⌜ Shaped (now chambers) (now store) × (k < chamberCount (now chambers)) × (length (now copy) ≡ 768) × (n ≤ 128) ⌝ }
+    ensures { λ _. ⌜
+        KeptIn k (sections (now (copy .entry)) n) (now (chambers .entry)) (now (store .entry)) (now (chambers .exit)) (now (store .exit))
+        ⌝ }
 {
-    let bin = TargetBin::read(chambers, k);
-    let count = bin.count as usize;
     let start = k * TargetBin::STORE;
     let end = start + TargetBin::STORE;
-    let left = commit(
-        &mut store[start..end],
-        count,
-        rects,
-        group,
-        m,
-        placements,
-        bin.id,
-    );
-    TargetBin::write_count(chambers, k, left as u32);
+    copy_sections(copy, n, &mut store[start..end]);
+    TargetBin::write_count(chambers, k, n as u32);
 }
 
-// One group: true where a chamber took it.
+// One group: "The first chamber where all fit is changed so; others aren't." Where none serves, the last copy is dropped.
 pub fn pack_group(
     chambers: &mut [u32],
     store: &mut [u32],
     order: &[usize],
-    n: usize,
     rects: &[u32],
     group: &[usize],
-    m: usize,
-    placements: &mut [u32],
     copy: &mut [u32],
-) -> bool
-    requires { ⌜ Ready (now chambers) (now store) m × Indices (chamberCount (now chambers)) n (now order) × GroupOf (now rects) m (now group) × HasPlacements (now placements) (rectCount (now rects)) × (length (now copy) ≡ 768) ⌝ }
-    ensures { λ b. ⌜ Grouped (take n (now (order .entry))) (rectAt (now (rects .entry))) (take m (now (group .entry))) b (now (chambers .entry)) (now (store .entry)) (now (placements .entry)) (now (chambers .exit)) (now (store .exit)) (now (placements .exit)) ⌝ }
+    table: &mut [u32],
+) -> Fit
+    requires { ⌜
+        Ready (now chambers) (now store) (length (now group))
+        × Each (λ k. k < chamberCount (now chambers)) (now order)
+        × GroupOf (now rects) (now group)
+        × (length (now copy) ≡ 768)
+        × (length (now group) * 6 ≤ length (now table))
+        ⌝ }
+    ensures { λ f. ⌜
+        Grouped f (now (order .entry)) (rectsAt (rectAt (now (rects .entry))) (now (group .entry))) (length (now (group .entry))) (now (table .exit))
+        (now (chambers .entry)) (now (store .entry)) (now (chambers .exit)) (now (store .exit))
+        ⌝ }
 {
-    let t = first_fitting(chambers, store, order, n, rects, group, m, copy);
-    if n <= t {
-        return false;
-    }
-    serve(chambers, store, order[t], rects, group, m, placements);
-    true
+    let fit = first_fitting(chambers, store, order, rects, group, copy, table);
+    let Fit::In(k, count) = fit else {
+        return fit;
+    };
+    keep(chambers, store, k, copy, count);
+    fit
 }

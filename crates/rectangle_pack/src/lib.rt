@@ -4,6 +4,5 @@ mod groups;
 mod order;
 mod packing;
 mod placements;
-mod trial;
 
 pub use packing::pack;

@@ -1,7 +1,7 @@
 -- The words stay as they are until a section takes the rectangle.
 use Rattle.lists.proofs.Kit.{needs, _≡_, refl, sym, ap, _∙_, arith, _-_, length, List, ℕ, now}
 use Rattle.placing.proofs.Finding.{Tried, tried-none, tried-more}
-use Rattle.placing.proofs.Placed.{placed-here, placed-nowhere}
+use Rattle.placing.proofs.Placed.{placed-room, placed-here, placed-nowhere}
 use Rattle.bin_section.specs.declared.section.BinSection.{BinSection}
 use Rattle.bin_section.specs.Section.{sectionAt}
 use Rattle.try_place.specs.Try.{fitOf}
@@ -26,7 +26,7 @@ found c =
     (c .before .read .ensures ∙ ap (λ (w : List ℕ). sectionAt w (l .loop .i - 1)) (l .loop .inv .0))
 
 read-requires : it.Tie.Need-read-requires Inv-loop μ-loop
-read-requires c κs = let l = c .before .before in omega (arith, ap length (l .loop .inv .0), l .before .before .pre .0, l .loop .inv .1 .most)
+read-requires c κs = let l = c .before .before in omega (arith, ap length (l .loop .inv .0), l .before .before .pre .0 .here, l .loop .inv .1 .most)
 
 loop-again : it.Tie.Need-loop-again Inv-loop μ-loop
 loop-again c = let l = c .before .before .before .before .before in (l .loop .inv .0, tried-more _ _ _ _ _ (l .loop .inv .1) (c .before .before .before .before .loop-test .taken) (found (c .before)) (c .match .keys2))
@@ -36,11 +36,12 @@ replace-requires c κs =
     let a = c .before .before in
     let t = a .before .before in
     let l = t .before .before .before .before in
-    let st = l .before .before in (
-      omega (arith, ap length (l .loop .inv .0), st .pre .0),
+    let st = l .before .before in
+    let fits = sym (found t) ∙ a .answer .given .1 in (
+      omega (arith, ap length (l .loop .inv .0), st .pre .0 .here),
+      rw (l .loop .inv .0) (placed-room _ _ _ (st .pre .1) _ (l .loop .inv .1) _ (t .before .before .before .loop-test .taken) fits (st .pre .0)),
       omega (arith, l .loop .inv .1 .most),
-      rw (l .loop .inv .0)
-          (placed-fitting _ _ _ (st .pre .1 .at (l .loop .i - 1) (omega (arith, l .loop .inv .1 .most))) (sym (found t) ∙ a .answer .given .1)),
+      rw (l .loop .inv .0) (placed-fitting _ _ _ (st .pre .1 .at (l .loop .i - 1) (omega (arith, l .loop .inv .1 .most))) fits),
     )
 
 returns : it.Tie.Need-returns Inv-loop μ-loop
@@ -49,8 +50,8 @@ returns c =
     let a = r .before .before .before in
     let t = a .before .before in
     let l = t .before .before .before .before in
-    placed-here _ _ _ (l .before .before .pre .1) _ (l .loop .inv .1) _ _ _ (t .before .before .before .loop-test .taken)
-    (sym (found t) ∙ a .answer .given .1) (rw (l .loop .inv .0) at (r .replace .ensures))
+    placed-here _ _ _ (l .before .before .pre .1) _ (l .loop .inv .1) _ (t .before .before .before .loop-test .taken)
+    (sym (found t) ∙ a .answer .given .1) _ _ (rw (l .loop .inv .0) at (r .replace .ensures))
 
 returns-2 : it.Tie.Need-returns-2 Inv-loop μ-loop
 returns-2 c = let l = c .before in rw (l .loop .inv .0) (placed-nowhere _ _ _ (l .before .before .pre .1) _ (l .loop .inv .1) (c .loop-test .left))

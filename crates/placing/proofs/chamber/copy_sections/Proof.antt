@@ -1,11 +1,11 @@
 use Rattle.lists.proofs.Kit.{_*_, _-_, now, arith, needs}
-use Rattle.rectangle_pack.proofs.Tables.{copied-sections}
-use Rattle.rectangle_pack.proofs.trial.copy_sections as it
+use Rattle.placing.proofs.Copying.{copied-sections}
+use Rattle.placing.proofs.chamber.copy_sections as it
 
 returns : it.Tie.Need-returns
 returns c =
     let s = c .before .before .before .before .before .before .before in
-    copied-sections (now (s .args .part)) (now (s .args .copy)) _ (s .args .count) (s .args .count * 6 - 0) (s .pre .0) (c .before .before .put-words .ensures) (omega arith)
+    copied-sections (now (s .args .from)) (now (s .args .to)) _ (s .args .n) (s .args .n * 6 - 0) (s .pre .0) (c .before .before .put-words .ensures) (omega arith)
 
 pub copy-sections-spec : {M : Type 1} → it.Statement.statement M
 copy-sections-spec =

@@ -1,0 +1,59 @@
+-- Laws of a chamber's counted sections, copied, and of the group placed on the copy.
+use Prim.Native.Nat.{ℕ, _+_, _*_, _-_, _≤_, _<_}
+use mathlib.Core.Path.{_≡_, sym, ap, _∙_}
+use mathlib.Core.List.{List, []}
+use native.Mathlib.Omega.{arith}
+use lib.ListN.{length, getD, take, drop, length-take}
+use lib.Seq.{take-at}
+use Rattle.lists.specs.Tab.{put}
+use Rattle.lists.proofs.Sorts.{each-map}
+use Rattle.bin_section.specs.declared.section.BinSection.{BinSection}
+use Rattle.sections.specs.Sections.{sections}
+use Rattle.sections.proofs.Reading.{length-sections, encoded, decoded}
+use Rattle.target_bin.specs.declared.chamber.TargetBin.{TargetBin}
+use Rattle.target_bin.specs.Chambers.{chamberAt, chamberCount}
+use Rattle.target_bin.specs.Store.{freeAt, freeOf}
+use Rattle.target_bin.proofs.Parts.{lent-part, part-room, getD-freeOf}
+use Rattle.grouped_rects_to_place.specs.declared.rect_to_place.RectToPlace.{RectToPlace}
+use Rattle.packing_rules.specs.Rules.{Trial, placeGroup}
+use Rattle.packing_rules.specs.Packing.{rectsAt, trialIn, mostSections}
+use Rattle.packing_rules.proofs.Left.{inside-reachable}
+use Rattle.packing_rules.proofs.Room.{part-most}
+use Rattle.placing.specs.Leaning.{Reaching, RoomThrough, Ready}
+use Rattle.placing.proofs.Reaches.{each-reaching}
+
+-- the first n sections, copied to the front
+pub copied-sections : (from to to′ : List ℕ) (n k : ℕ) → n * 6 ≤ length from → to′ ≡ put to 0 (take k from) → k ≡ n * 6 → sections to′ n ≡ sections from n
+unfolding put
+copied-sections from to to′ n k room e′ all =
+    let e : to′ ≡ put to 0 (take (n * 6) from) = e′ ∙ ap (λ (j : ℕ). put to 0 (take j from)) all in
+    decoded (sections from n) to′ n (length-sections from n)
+    (ap (take (n * 6)) e ∙ take-at (take (n * 6) from) _ (n * 6) (length-take (n * 6) from ∙ omega arith) ∙ sym (encoded from n room))
+
+module _ (c st : List ℕ) (k n : ℕ) (ready : Ready c st n) (here : k < chamberCount c) (bin : TargetBin) (read : bin ≡ chamberAt c k) where
+  count-few : bin .count ≤ 128
+  count-few = omega (arith, ready .shaped .counted .counts k here, ap (λ (b : TargetBin). b .count) read)
+
+  pub copy-room : (copy : List ℕ) → length copy ≡ 768 → (bin .count * 6 ≤ length (take (k * 768 + 768 - k * 768) (drop (k * 768) st))) × (bin .count * 6 ≤ length copy)
+  copy-room copy long = (part-room st k (bin .count) count-few (omega (arith, ready .shaped .long)), omega (arith, count-few))
+
+  module _ (copy : List ℕ) (long : length copy ≡ 768) (same : sections copy (bin .count) ≡ sections (take (k * 768 + 768 - k * 768) (drop (k * 768) st)) (bin .count)) where
+    copy-free : sections copy (bin .count) ≡ getD (freeOf c st) k []
+    unfolding freeAt
+    copy-free = same ∙ rw (lent-part st k, read) (sym (getD-freeOf c st k [] here))
+
+    pub copy-through : (r : ℕ → RectToPlace) (group : List ℕ) → length group ≡ n → RoomThrough (bin .count) r group copy
+    copy-through r group many =
+        record {
+          at = λ i ls free e.
+              let room : mostSections (length (getD (freeOf c st) k [])) (length group) ≤ 128 = rw many (ready .room k here) in
+              omega (arith, long, room, part-most r (getD (freeOf c st) k []) group i ls free (rw copy-free at e));
+        }
+
+    pub copy-reaching : Reaching (bin .count) copy
+    copy-reaching =
+        each-reaching (bin .count) copy (rw copy-free (each-map (λ s i. inside-reachable (chamberAt c k .whd) (ready .small k here) s i) (ready .inside k here)))
+
+    pub trial-here : (t : Trial) (r : ℕ → RectToPlace) (group : List ℕ) → t ≡ placeGroup (sections copy (bin .count)) (rectsAt r group) → t ≡ trialIn (rectsAt r group) (freeOf c st) k
+    unfolding trialIn
+    trial-here t r group e = e ∙ ap (λ (free : List BinSection). placeGroup free (rectsAt r group)) copy-free
