@@ -2,6 +2,7 @@
 use Prim.Native.Nat.{ℕ, zero, suc, _<_}
 use mathlib.Core.Path.{_≡_, refl, sym, ap, _∙_}
 use mathlib.Core.Logic.{⊎-elim}
+use mathlib.Core.Bool.{false}
 use mathlib.Core.List.{List, [], _∷_, _++_, append-assoc, append-nil}
 use native.Mathlib.Nat.{eq-or-lt-of-le, le-of-suc-le-suc, lt-suc-self, le-step}
 use native.Mathlib.Omega.{arith}
@@ -16,7 +17,7 @@ use Rattle.try_place.specs.Try.{fitOf, Fits}
 use Rattle.try_place.proofs.Trying.{fit-or-not}
 use Rattle.grouped_rects_to_place.specs.declared.rect_to_place.RectToPlace.{RectToPlace}
 use Rattle.packing_rules.specs.Appended.{appendedOf}
-use Rattle.packing_rules.specs.Rules.{One, nowhere, placed, placeFrom, placeOne, Trial, stops, whole, afterOne, next, placeAll, placeGroup}
+use Rattle.packing_rules.specs.Rules.{One, nowhere, placed, placeFrom, placeOne, Trial, stops, whole, afterOne, next, placeAll, placeGroup, isWhole}
 use Rattle.packing_rules.specs.Packing.{rectsAt}
 
 -- ---- one rectangle
@@ -99,6 +100,11 @@ all-stops : (i : ℕ) (free : List BinSection) (xs : List RectToInsert) → plac
 unfolding placeAll
 all-stops i free [] = refl
 all-stops i free (x ∷ xs) = all-stops i free xs
+
+-- a first rectangle that fits nowhere stops the trial
+pub stops-first : (free : List BinSection) (r : RectToInsert) (rs : List RectToInsert) → placeOne free r ≡ nowhere → isWhole (placeGroup free (r ∷ rs)) ≡ false
+unfolding placeGroup placeAll
+stops-first free r rs e = rw (e, all-stops 0 free rs)
 
 all-placings :
     (before ls : List PackedLocation) (free free′ : List BinSection) (rs : List RectToInsert)

@@ -1,9 +1,11 @@
 -- What functions below the jobs lean on and leave. No job's contract cites it, and a reader of the rules needs none of it.
 use Prim.Native.Nat.{ℕ, _*_, _≤_, _<_}
 use mathlib.Core.Path.{_≡_}
-use mathlib.Core.List.{List, []}
+use mathlib.Core.List.{List, [], _++_}
+use mathlib.Core.Bool.{Bool, true, false}
 use lib.ListN.{length, getD, take}
 use Rattle.lists.specs.Sort.{Each}
+use Rattle.lists.specs.Tab.{removeAt}
 use Rattle.bin_section.specs.declared.section.BinSection.{BinSection}
 use Rattle.bin_section.specs.Inside.{Inside}
 use Rattle.bin_section.specs.Leaning.{Small}
@@ -11,12 +13,14 @@ use Rattle.sections.specs.Sections.{sections}
 use Rattle.bin_section.specs.declared.rect_to_insert.RectToInsert.{RectToInsert}
 use Rattle.bin_section.specs.Section.{sectionAt}
 use Rattle.try_place.specs.declared.packed_location.PackedLocation.{PackedLocation}
-use Rattle.try_place.specs.Leaning.{Reachable}
+use Rattle.try_place.specs.Try.{placedOf}
+use Rattle.try_place.specs.Leaning.{Reachable, Fitting}
 use Rattle.target_bin.specs.Chambers.{chamberAt, chamberCount}
 use Rattle.target_bin.specs.Leaning.{Shaped}
 use Rattle.target_bin.specs.Store.{freeOf}
 use Rattle.grouped_rects_to_place.specs.declared.rect_to_place.RectToPlace.{RectToPlace}
 use Rattle.grouped_rects_to_place.specs.Rect.{rectAt, rectCount}
+use Rattle.packing_rules.specs.Appended.{appendedOf}
 use Rattle.packing_rules.specs.Rules.{One, nowhere, placed, placeOne, whole, placeGroup}
 use Rattle.packing_rules.specs.Packing.{rectsAt, mostSections}
 use Rattle.placing.specs.declared.place.PlacedRect.{PlacedRect}
@@ -28,6 +32,21 @@ pub record Reaching (count : ℕ) (w : List ℕ) : Type 0 where
   pub at : (i : ℕ) → i < count → Reachable (sectionAt w i)
 
 -- ---- one rectangle
+
+-- some section fits
+abbrev pub isPlaced : One → Bool
+isPlaced nowhere = false
+isPlaced (placed l free) = true
+
+-- the section at i takes the rectangle, by the rules; where none does, i is count
+pub record TakenAt (count : ℕ) (r : RectToInsert) (i : ℕ) (w : List ℕ) : Type 0 where
+  pub fits : i < count → Fitting (sectionAt w i) r
+  pub here :
+      i < count
+      → placeOne (sections w count) r
+      ≡ placed (record { x = sectionAt w i .x; y = sectionAt w i .y; z = sectionAt w i .z; whd = r .whd })
+      (removeAt i (sections w count) ++ appendedOf (placedOf (sectionAt w i) r .sections))
+  pub none : count ≤ i → placeOne (sections w count) r ≡ nowhere
 
 -- the words have room for the free sections, and for those that are free once the rectangle is placed
 pub record RoomAfter (count : ℕ) (r : RectToInsert) (w : List ℕ) : Type 0 where

@@ -5,6 +5,7 @@ mod place;
 mod step;
 
 pub use chamber::copy_sections;
+pub use chamber::has_place;
 pub use chamber::place_in;
 pub use place::PlacedRect;
 pub use place::Spot;

@@ -9,7 +9,7 @@ ghost use Rattle.bin_section.specs.Section.{sectionAt};
 ghost use Rattle.try_place.specs.Try.{placedOf};
 ghost use Rattle.try_place.specs.Leaning.{Fitting};
 ghost use Rattle.packing_rules.specs.Appended.{appendedOf};
-ghost use Rattle.placing.specs.Leaning.{RoomAfter, PlacedOne, Reaching};
+ghost use Rattle.placing.specs.Leaning.{TakenAt, RoomAfter, PlacedOne, Reaching};
 use crate::add_new_sections::add_new_sections;
 use bin_section::BinSection;
 use bin_section::RectToInsert;
@@ -50,27 +50,48 @@ fn replace(words: &mut [u32], count: usize, i: usize, incoming: RectToInsert) ->
     add_new_sections(words, count - 1, three)
 }
 
-// "the free sections are tried from the last to the first, the first that fits is removed"
-pub fn place_rect(words: &mut [u32], count: usize, incoming: RectToInsert) -> PlacedRect
-    requires { ⌜ RoomAfter count incoming (now words) × Reaching count (now words) ⌝ }
-    ensures { λ p. ⌜ PlacedOne count incoming p (now (words .entry)) (now (words .exit)) ⌝ }
+// "the free sections are tried from the last to the first": the index of the first that fits; count where none does. It stands by itself, so
+// that the compiled loop is short.
+pub fn last_fitting(words: &[u32], count: usize, incoming: RectToInsert) -> usize
+    requires { ⌜ (count * 6 ≤ length (now words)) × Reaching count (now words) ⌝ }
+    ensures { λ i. ⌜ TakenAt count incoming i (now (words .entry)) ⌝ }
 {
     let mut i = count;
     while 0 < i {
         i -= 1;
         let section = BinSection::read(words, i);
         let answer = fit(section, incoming);
-        let TryAnswer::Placed(location) = answer else {
+        let TryAnswer::Placed(_) = answer else {
             continue;
         };
-        let left = replace(words, count, i, incoming);
+        return i;
+    }
+    count
+}
+
+// "the first that fits is removed": the rectangle goes to its origin.
+pub fn place_rect(words: &mut [u32], count: usize, incoming: RectToInsert) -> PlacedRect
+    requires { ⌜ RoomAfter count incoming (now words) × Reaching count (now words) ⌝ }
+    ensures { λ p. ⌜ PlacedOne count incoming p (now (words .entry)) (now (words .exit)) ⌝ }
+{
+    let i = last_fitting(words, count, incoming);
+    if count <= i {
         return PlacedRect {
-            spot: Spot::At(location),
-            count: left,
+            spot: Spot::Nowhere,
+            count,
         };
     }
+    let section = BinSection::read(words, i);
+    let whd = incoming.whd;
+    let location = PackedLocation {
+        x: section.x,
+        y: section.y,
+        z: section.z,
+        whd,
+    };
+    let left = replace(words, count, i, incoming);
     PlacedRect {
-        spot: Spot::Nowhere,
-        count,
+        spot: Spot::At(location),
+        count: left,
     }
 }

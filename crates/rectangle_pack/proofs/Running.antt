@@ -39,7 +39,8 @@ use Rattle.rectangle_pack.specs.declared.groups.Fit.the-variants.{In, No
 use Rattle.rectangle_pack.specs.Pack.{binsWith, packOutcome, written}
 use Rattle.rectangle_pack.specs.Records.{placementsOf}
 use Rattle.rectangle_pack.specs.Leaning.{SameShape, Grouped, SeatsFor, Seated, PackedTo, GroupsPacked, Clean, Tidied}
-use Rattle.rectangle_pack.proofs.Serving.{ready-part, ready-next}
+use Rattle.rectangle_pack.proofs.Serving.{ready-next}
+use Rattle.placing.proofs.Copying.{ready-part}
 use Rattle.rectangle_pack.proofs.Tidying.{tidied-shaped, tidied-free}
 
 pub same-through : (a b c : List ℕ) → SameShape a b → SameShape b c → SameShape a c
@@ -124,6 +125,9 @@ module _ (r : ℕ → RectToPlace) (n : ℕ) (c₀ st₀ p₀ : List ℕ) where
       total-next : total length (drop i gs) ≡ length group + total length (drop (i + 1) gs)
       unfolding total
       total-next = rw next
+
+      pub group-some : 0 < length group
+      group-some = rw is (group-of n r (getD leads i 0) (lead-told n r leads led i h .0) (lead-told n r leads led i h .1) .some)
 
       pub group-ready : Ready c st (length group)
       group-ready = ready-part c st (length group) (total length (drop i gs)) (s .ready) (omega (arith, total-next))

@@ -2,8 +2,8 @@
 use Prim.Native.Nat.{ℕ, _+_, _*_, _-_, _/_, _≤_, _<_}
 use mathlib.Core.Path.{_≡_, refl, sym, ap, _∙_}
 use mathlib.Core.Logic.{⊎-elim}
-use mathlib.Core.List.{List, []}
-use mathlib.Core.Bool.{true, false}
+use mathlib.Core.List.{List, [], _∷_}
+use mathlib.Core.Bool.{Bool, false}
 use native.Mathlib.Decide.{ℕ-discrete}
 use native.Mathlib.Omega.{arith}
 use lib.ListN.{length, getD, take, drop, set, length-set}
@@ -25,50 +25,64 @@ use Rattle.target_bin.specs.Store.{partAt, freeAt, freeOf}
 use Rattle.target_bin.proofs.Parts.{length-partAt, lent-part, partAt-put-same, only-in, free-set}
 use Rattle.target_bin.proofs.Tables.{chamberAt-set-same, chamberAt-set-other}
 use Rattle.grouped_rects_to_place.specs.declared.rect_to_place.RectToPlace.{RectToPlace}
-use Rattle.packing_rules.specs.Rules.{whole, isWhole}
+use Rattle.packing_rules.specs.Rules.{placeOne, whole, isWhole}
 use Rattle.packing_rules.specs.Packing.{rectsAt, trialIn, mostSections}
 use Rattle.packing_rules.specs.Promises.{Serves, NoneServes}
 use Rattle.packing_rules.proofs.Left.{placings-free, inside-reachable, inside-passes}
-use Rattle.packing_rules.proofs.Placings.{group-placings}
+use Rattle.packing_rules.proofs.Placings.{group-placings, stops-first}
+use Rattle.placing.proofs.Placed.{not-placed}
 use Rattle.packing_rules.proofs.Room.{group-most, most-part, most-least}
 use Rattle.placing.specs.declared.step.Step.{Step}
 use Rattle.placing.specs.declared.step.Step.the-variants.{Whole, Stops}
-use Rattle.placing.specs.Leaning.{Ready}
+use Rattle.placing.specs.Leaning.{isPlaced, Ready}
 use Rattle.placing.specs.Step.{locations, trialOf}
 use Rattle.rectangle_pack.specs.declared.groups.Fit.{Fit}
 use Rattle.rectangle_pack.specs.declared.groups.Fit.the-variants.{In, Nowhere}
-use Rattle.rectangle_pack.specs.Leaning.{fitOf, FirstFit, SameShape, KeptIn, Grouped}
+use Rattle.rectangle_pack.specs.Leaning.{fitOf, FitHere, FirstFit, SameShape, KeptIn, Grouped}
+
+-- ---- one chamber
+
+module _ (group : List RectToInsert) (frees : List (List BinSection)) (m k : ℕ) (copy table : List ℕ) where
+  pub fit-step : (f : Fit) (s : Step) → f ≡ fitOf k s → trialOf s m copy table ≡ trialIn group frees k → FitHere f k group frees m copy table
+  fit-step f (Whole n) e d = rw e (refl, sym d)
+  fit-step f (Stops i n) e d = rw e (ap isWhole (sym d))
+
+-- the first of the group fits no section: so it stops the trial
+pub first-stops :
+    (r : ℕ → RectToPlace) (group : List ℕ) (frees : List (List BinSection)) (k : ℕ) (b : Bool)
+    → 0 < length group
+    → b ≡ isPlaced (placeOne (getD frees k []) (record { whd = r (getD group 0 0) .whd }))
+    → b ≡ false
+    → isWhole (trialIn (rectsAt r group) frees k) ≡ false
+unfolding trialIn rectsAt
+first-stops r [] frees k b some e none = absurd (omega arith)
+first-stops r (i ∷ is) frees k b some e none =
+    stops-first (getD frees k []) (record { whd = r i .whd }) (rectsAt r is) (not-placed _ (sym e ∙ none))
 
 -- ---- the first chamber where all fit
 
-module _ (order : List ℕ) (group : List RectToInsert) (frees : List (List BinSection)) (m t : ℕ) (copy table : List ℕ)
+module _ (order : List ℕ) (group : List RectToInsert) (frees : List (List BinSection)) (t : ℕ)
     (passed : None t (λ i. isWhole (trialIn group frees (getD order i 0)))) where
   pub serves-here :
-      (f : Fit) (s : Step) (k n : ℕ)
+      (f : Fit) (m : ℕ) (copy table : List ℕ) (k n : ℕ)
       → t < length order
-      → f ≡ fitOf (getD order t 0) s
-      → trialOf s m copy table ≡ trialIn group frees (getD order t 0)
+      → FitHere f (getD order t 0) group frees m copy table
       → f ≡ In k n
       → FirstFit f order group frees m copy table
-  serves-here f (Whole n) k n′ h e d told =
-      rw e (t, record { within = h; earlier-stop = passed .at; all-fit = ap isWhole (sym d) }, refl, sym d)
-  serves-here f (Stops i n) k n′ h e d told = let z : _≡_ {A = ℕ} 0 1 = cc in absurd (omega arith)
+  serves-here (In j n) m copy table k n′ h d told =
+      (t, record { within = h; earlier-stop = passed .at; all-fit = ap isWhole (d .1) }, d .0, rw (d .0) at (d .1))
+  serves-here Nowhere m copy table k n h d told = let z : _≡_ {A = ℕ} 0 1 = cc in absurd (omega arith)
 
-pub serves-nowhere :
-    (order : List ℕ) (group : List RectToInsert) (frees : List (List BinSection)) (t : ℕ)
-    → None t (λ i. isWhole (trialIn group frees (getD order i 0)))
-    → length order ≤ t
-    → NoneServes order group frees
-serves-nowhere order group frees t passed h = record { at = λ u l. passed .at u (omega arith) }
+  pub serves-nowhere : length order ≤ t → NoneServes order group frees
+  serves-nowhere h = record { at = λ u l. passed .at u (omega arith) }
 
 pub not-here :
-    (group : List RectToInsert) (frees : List (List BinSection)) (m k : ℕ) (copy table : List ℕ) (f : Fit) (s : Step)
-    → f ≡ fitOf k s
-    → trialOf s m copy table ≡ trialIn group frees k
+    (group : List RectToInsert) (frees : List (List BinSection)) (m k : ℕ) (copy table : List ℕ) (f : Fit)
+    → FitHere f k group frees m copy table
     → f ≡ Nowhere
     → isWhole (trialIn group frees k) ≡ false
-not-here group frees m k copy table f (Whole n) e d told = let z : _≡_ {A = ℕ} 0 1 = cc in absurd (omega arith)
-not-here group frees m k copy table f (Stops i n) e d told = ap isWhole (sym d)
+not-here group frees m k copy table (In j n) d told = let z : _≡_ {A = ℕ} 0 1 = cc in absurd (omega arith)
+not-here group frees m k copy table Nowhere d told = d
 
 -- ---- the copy is kept
 
@@ -161,16 +175,7 @@ module _ (c st order group : List ℕ) (r : ℕ → RectToPlace) (m : ℕ) (copy
     pub grouped-served : (c′ st′ : List ℕ) → KeptIn k (sections copy n) c st c′ st′ → Grouped (In k n) order (rectsAt r group) m table c st c′ st′
     grouped-served c′ st′ kept = (found .0, found .1, found .2, sections copy n, found .3, kept)
 
--- ---- what is ready for all is ready for the others, once a group stands in its chamber
-
-pub ready-part : (c st : List ℕ) (m n : ℕ) → Ready c st n → m ≤ n → Ready c st m
-ready-part c st m n r h =
-    record {
-      shaped = r .shaped;
-      small = r .small;
-      inside = r .inside;
-      room = λ k l. omega (arith, r .room k l, most-part (length (getD (freeOf c st) k [])) m n h);
-    }
+-- ---- what was ready for all is ready for the others, once a group stands in its chamber
 
 pub ready-next :
     (c st c′ st′ group : List ℕ) (r : ℕ → RectToPlace) (k rest : ℕ) (ls : List PackedLocation) (free : List BinSection)

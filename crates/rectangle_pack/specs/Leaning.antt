@@ -2,6 +2,7 @@
 use Prim.Native.Nat.{ℕ, _*_, _≤_, _<_}
 use mathlib.Core.Path.{_≡_}
 use mathlib.Core.List.{List}
+use mathlib.Core.Bool.{false}
 use lib.ListN.{length, getD, set}
 use Rattle.bin_section.specs.declared.rect_to_insert.RectToInsert.{RectToInsert}
 use Rattle.bin_section.specs.declared.section.BinSection.{BinSection}
@@ -18,14 +19,14 @@ use Rattle.grouped_rects_to_place.specs.Leaning.{GoodRects}
 use Rattle.grouped_rects_to_place.specs.Groups.{groupsOf}
 use Rattle.placement.specs.Placements.{placementWidth}
 use Rattle.placement.specs.Leaning.{HasPlacement}
-use Rattle.packing_rules.specs.Rules.{whole}
+use Rattle.packing_rules.specs.Rules.{whole, isWhole}
 use Rattle.packing_rules.specs.Packing.{trialIn, state, Ended, packGroups}
 use Rattle.packing_rules.specs.Promises.{Serves, NoneServes}
 use Rattle.packing_rules.specs.Order.{trialOrder}
 use Rattle.packing_rules.specs.Seats.{Seat, seated}
 use Rattle.placing.specs.declared.step.Step.{Step}
 use Rattle.placing.specs.declared.step.Step.the-variants.{Whole, Stops}
-use Rattle.placing.specs.Leaning.{Ready}
+use Rattle.placing.specs.Leaning.{GroupOf, Ready}
 use Rattle.placing.specs.Step.{locations}
 use Rattle.rectangle_pack.specs.declared.groups.Fit.{Fit}
 use Rattle.rectangle_pack.specs.declared.groups.Fit.the-variants.{In, Nowhere}
@@ -42,10 +43,22 @@ pub record Indices (n count : ℕ) (order : List ℕ) : Type 0 where
 
 -- ---- one group
 
+-- a group that is to be placed, with the copy and the table of locations that are lent for it
+pub record Wanted (rects group copy table : List ℕ) : Type 0 where
+  pub some : 0 < length group
+  pub listed : GroupOf rects group
+  pub copy-long : length copy ≡ 768
+  pub table-long : length group * 6 ≤ length table
+
 -- the chamber at k takes the group, if the step there is whole
 abbrev pub fitOf : ℕ → Step → Fit
 fitOf k (Whole n) = In k n
 fitOf k (Stops i n) = Nowhere
+
+-- the chamber at k takes all m of the group, with the copy and the locations that its step left; or all do not fit there
+abbrev pub FitHere : Fit → ℕ → List RectToInsert → List (List BinSection) → ℕ → List ℕ → List ℕ → Type 0
+FitHere (In j n) k group frees m copy table = (k ≡ j) × (trialIn group frees k ≡ whole (locations table m) (sections copy n))
+FitHere Nowhere k group frees m copy table = isWhole (trialIn group frees k) ≡ false
 
 -- the first chamber where all m of the group fit, with the copy and the locations that its step left; or none serves
 abbrev pub FirstFit : Fit → List ℕ → List RectToInsert → List (List BinSection) → ℕ → List ℕ → List ℕ → Type 0

@@ -1,6 +1,6 @@
 // "A group is tried in each chamber in turn": the first chamber where all of it fits keeps the copy on which it was placed.
 ghost use mathlib.Core.Path.{_≡_};
-ghost use Prim.Native.Nat.{_*_, _≤_, _<_};
+ghost use Prim.Native.Nat.{_≤_, _<_};
 ghost use lib.ListN.{length};
 ghost use Rattle.lists.specs.Sort.{Each};
 ghost use Rattle.sections.specs.Sections.{sections};
@@ -9,10 +9,11 @@ ghost use Rattle.target_bin.specs.Leaning.{Shaped};
 ghost use Rattle.target_bin.specs.Store.{freeOf};
 ghost use Rattle.grouped_rects_to_place.specs.Rect.{rectAt};
 ghost use Rattle.packing_rules.specs.Packing.{rectsAt};
-ghost use Rattle.placing.specs.Leaning.{GroupOf, Ready};
-ghost use Rattle.rectangle_pack.specs.Leaning.{fitOf, FirstFit, KeptIn, Grouped};
+ghost use Rattle.placing.specs.Leaning.{Ready};
+ghost use Rattle.rectangle_pack.specs.Leaning.{fitOf, Wanted, FitHere, FirstFit, KeptIn, Grouped};
 use placing::Step;
 use placing::copy_sections;
+use placing::has_place;
 use placing::place_in;
 use target_bin::TargetBin;
 
@@ -34,7 +35,33 @@ impl Fit {
     }
 }
 
-// "The first chamber where all fit", in the order of the chambers. At each the copy is made anew.
+// The group in the chamber at k. A chamber that has no place for the first of the group is not copied; most trials end so.
+fn fit_in(
+    chambers: &[u32],
+    store: &[u32],
+    k: usize,
+    rects: &[u32],
+    group: &[usize],
+    copy: &mut [u32],
+    table: &mut [u32],
+) -> Fit
+    requires { ⌜
+        Ready (now chambers) (now store) (length (now group))
+        × (k < chamberCount (now chambers))
+        × Wanted (now rects) (now group) (now copy) (now table)
+        ⌝ }
+    ensures { λ f. ⌜
+        FitHere f k (rectsAt (rectAt (now (rects .entry))) (now (group .entry))) (freeOf (now (chambers .entry)) (now (store .entry)))
+        (length (now (group .entry))) (now (copy .exit)) (now (table .exit))
+        ⌝ }
+{
+    if !has_place(chambers, store, k, rects, group[0]) {
+        return Fit::Nowhere;
+    }
+    Fit::new(k, place_in(chambers, store, k, rects, group, copy, table))
+}
+
+// "The first chamber where all fit", in the order of the chambers. In each the copy is made anew.
 fn first_fitting(
     chambers: &[u32],
     store: &[u32],
@@ -47,9 +74,7 @@ fn first_fitting(
     requires { ⌜
         Ready (now chambers) (now store) (length (now group))
         × Each (λ k. k < chamberCount (now chambers)) (now order)
-        × GroupOf (now rects) (now group)
-        × (length (now copy) ≡ 768)
-        × (length (now group) * 6 ≤ length (now table))
+        × Wanted (now rects) (now group) (now copy) (now table)
         ⌝ }
     ensures { λ f. ⌜
         FirstFit f (now (order .entry)) (rectsAt (rectAt (now (rects .entry))) (now (group .entry))) (freeOf (now (chambers .entry)) (now (store .entry)))
@@ -58,8 +83,7 @@ fn first_fitting(
 {
     let n = order.len();
     for t in 0..n {
-        let k = order[t];
-        let fit = Fit::new(k, place_in(chambers, store, k, rects, group, copy, table));
+        let fit = fit_in(chambers, store, order[t], rects, group, copy, table);
         let Fit::Nowhere = fit else {
             return fit;
         };
@@ -93,9 +117,7 @@ pub fn pack_group(
     requires { ⌜
         Ready (now chambers) (now store) (length (now group))
         × Each (λ k. k < chamberCount (now chambers)) (now order)
-        × GroupOf (now rects) (now group)
-        × (length (now copy) ≡ 768)
-        × (length (now group) * 6 ≤ length (now table))
+        × Wanted (now rects) (now group) (now copy) (now table)
         ⌝ }
     ensures { λ f. ⌜
         Grouped f (now (order .entry)) (rectsAt (rectAt (now (rects .entry))) (now (group .entry))) (length (now (group .entry))) (now (table .exit))

@@ -1,5 +1,5 @@
 use Rattle.lists.proofs.Kit.{now, refl, needs}
-use Rattle.placing.proofs.Copying.{copy-room, copy-through, copy-reaching, trial-here}
+use Rattle.placing.proofs.Copying.{copy-room, words-through, words-reaching, trial-here}
 use Rattle.placing.proofs.chamber.place_in as it
 
 copy-sections-requires : it.Tie.Need-copy-sections-requires
@@ -13,8 +13,8 @@ place-group-requires c κs =
     let q = c .before .before .before .before in
     let r = q .before .before .before .before in
     let s = r .before .before .before .before .before .before .before in (
-      copy-through _ _ _ _ (s .pre .0) (s .pre .1) _ (r .read .ensures) _ (search needs) (q .copy-sections .ensures) _ (now (s .args .group)) refl,
-      copy-reaching _ _ _ _ (s .pre .0) (s .pre .1) _ (r .read .ensures) _ (search needs) (q .copy-sections .ensures),
+      words-through _ _ _ _ (s .pre .0) (s .pre .1) _ (r .read .ensures) _ (q .copy-sections .ensures) _ (now (s .args .group)) (search needs) refl,
+      words-reaching _ _ _ _ (s .pre .0) (s .pre .1) _ (r .read .ensures) _ (q .copy-sections .ensures),
       s .pre .2,
       s .pre .4,
     )
@@ -25,7 +25,7 @@ returns c =
     let q = g .before .before .before .before .before in
     let r = q .before .before .before .before in
     let s = r .before .before .before .before .before .before .before in
-    trial-here _ _ _ _ (s .pre .0) (s .pre .1) _ (r .read .ensures) _ (search needs) (q .copy-sections .ensures) _ _ _ (g .place-group .ensures)
+    trial-here _ _ _ _ (s .pre .0) (s .pre .1) _ (r .read .ensures) _ (q .copy-sections .ensures) _ _ _ (g .place-group .ensures)
 
 pub place-in-spec : {M : Type 1} → it.Statement.statement M
 place-in-spec =

@@ -1,4 +1,4 @@
-use Rattle.lists.proofs.Kit.{needs, _-_, _≤_, _≡_, refl, sym, _∙_, length, getD}
+use Rattle.lists.proofs.Kit.{needs, arith, _-_, _≤_, _≡_, refl, sym, _∙_, length, getD}
 use Rattle.lists.proofs.Lowests.{None, none-zero, none-more}
 use Rattle.lists.proofs.Sorts.{each-at}
 use Rattle.target_bin.specs.Store.{freeOf}
@@ -14,20 +14,21 @@ Inv-loop chambers store order rects group copy₀ table₀ n t₀ copy table t =
 abbrev μ-loop : it.Tie.MeasureT-loop
 μ-loop chambers store order rects group copy₀ table₀ n t₀ copy table t = length order - t
 
-place-in-requires : it.Tie.Need-place-in-requires Inv-loop μ-loop
-place-in-requires c κs =
+fit-in-requires : it.Tie.Need-fit-in-requires Inv-loop μ-loop
+fit-in-requires c κs =
     let i = c .before .before .before in let l = i .before in let s = l .before .before .before .before .before .before .before .before in
-    (s .pre .0, each-at (s .pre .1) (l .loop .t) 0 (i .loop-test .taken), s .pre .2, l .loop .inv .1 ∙ s .pre .3, search needs)
+    let w = s .pre .2 in
+    (s .pre .0, each-at (s .pre .1) (l .loop .t) 0 (i .loop-test .taken), record { some = w .some; listed = w .listed; copy-long = l .loop .inv .1 ∙ w .copy-long; table-long = omega (arith, l .loop .inv .2, w .table-long) })
 
 returns : it.Tie.Need-returns Inv-loop μ-loop
 returns c =
-    let n = c .before .before in let q = n .before .before .before .before .before in let i = q .before .before .before .before in let l = i .before in
-    serves-here _ _ _ _ _ _ _ (l .loop .inv .3) (n .new .result) (q .place-in .result) _ _ (i .loop-test .taken) (n .new .ensures) (q .place-in .ensures) (c .enum-told2 .given .1)
+    let q = c .before .before .before .before .before .before in let i = q .before .before .before .before in let l = i .before in
+    serves-here _ _ _ _ (l .loop .inv .3) _ _ _ _ _ _ (i .loop-test .taken) (q .fit-in .ensures) (c .enum-told2 .given .1)
 
 loop-again : it.Tie.Need-loop-again Inv-loop μ-loop
 loop-again c =
-    let n = c .before .before in let q = n .before .before .before .before .before in let i = q .before .before .before .before in let l = i .before in
-    (search needs, search needs, search needs, none-more (l .loop .t) _ (l .loop .inv .3) (not-here _ _ _ _ _ _ (n .new .result) (q .place-in .result) (n .new .ensures) (q .place-in .ensures) (c .enum-told .given .1)))
+    let q = c .before .before .before .before .before .before in let i = q .before .before .before .before in let l = i .before in
+    (search needs, search needs, search needs, none-more (l .loop .t) _ (l .loop .inv .3) (not-here _ _ _ _ _ _ _ (q .fit-in .ensures) (c .enum-told .given .1)))
 
 returns-2 : it.Tie.Need-returns-2 Inv-loop μ-loop
 returns-2 c =
@@ -38,6 +39,5 @@ pub first-fitting-spec : {M : Type 1} → it.Statement.statement M
 first-fitting-spec =
     it.Tie.close
     (it.Tie.spec Inv-loop μ-loop (λ c. (search needs, refl, refl, none-zero _)) (λ c. search needs) (λ c. search needs)
-    place-in-requires (λ c κs. search needs) (λ c. search needs) (λ c. search needs) (λ c. search needs)
-    (λ c. search needs) returns (λ c. search needs) (λ c. search needs) loop-again (λ c. search needs)
-    (λ c. search needs) returns-2)
+    fit-in-requires (λ c. search needs) (λ c. search needs) (λ c. search needs) (λ c. search needs) returns
+    (λ c. search needs) (λ c. search needs) loop-again (λ c. search needs) (λ c. search needs) returns-2)

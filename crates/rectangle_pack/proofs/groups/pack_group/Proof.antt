@@ -12,7 +12,7 @@ keep-requires c κs =
     let f = c .before .before .before .before in let q = f .before .before .before .before .before .before in let s = q .before .before .before .before .before .before .before .before .before .before .before .before in (
       s .pre .0 .shaped,
       fit-below _ _ _ _ _ _ _ _ _ (q .first-fitting .ensures) _ _ (f .fit .given .1) _ (s .pre .1),
-      search needs,
+      search (needs, s .pre .2),
       fit-few _ _ _ (now (s .args .group)) _ _ _ _ _ (q .first-fitting .ensures) _ _ (f .fit .given .1) _ (s .pre .0) refl (s .pre .1),
     )
 

@@ -1,6 +1,6 @@
 use Rattle.lists.proofs.Kit.{needs, _-_, _≡_, refl, _∙_, arith, length}
 use Rattle.grouped_rects_to_place.specs.Rect.{rectAt, rectCount}
-use Rattle.rectangle_pack.proofs.Running.{Running, running-none, order-still, lead-below, group-ready, listed-part, group-listed, group-few, group-seats, record-there, running-more, running-refused, running-all}
+use Rattle.rectangle_pack.proofs.Running.{Running, running-none, order-still, lead-below, group-some, group-ready, listed-part, group-listed, group-few, group-seats, record-there, running-more, running-refused, running-all}
 use Rattle.rectangle_pack.proofs.packing.pack_groups as it
 
 abbrev Inv-loop : it.Tie.InvT-loop
@@ -25,9 +25,12 @@ pack-group-requires c κs =
     let is = listed-part _ _ _ _ (m .members-of .ensures) in (
       group-ready _ _ _ _ _ _ _ (s .pre .4) (s .pre .3) _ _ _ _ (l .loop .inv .0) (i .loop-test .taken) _ is,
       order-still _ _ _ _ _ _ _ (s .pre .4) (s .pre .3) _ _ _ _ (l .loop .inv .0),
-      group-listed _ _ _ _ (m .members-of .ensures) _ _ is (search needs),
-      search needs,
-      omega (arith, group-few _ _ _ _ (m .members-of .ensures) _ is, s .pre .1 .few, l .loop .inv .4),
+      record {
+        some = group-some _ _ _ _ _ _ _ (s .pre .4) (s .pre .3) _ _ _ _ (l .loop .inv .0) (i .loop-test .taken) _ is;
+        listed = group-listed _ _ _ _ (m .members-of .ensures) _ _ is (search needs);
+        copy-long = search needs;
+        table-long = omega (arith, group-few _ _ _ _ (m .members-of .ensures) _ is, s .pre .1 .few, l .loop .inv .4);
+      },
     )
 
 cast-new : it.Tie.Need-cast-new Inv-loop μ-loop
