@@ -1,4 +1,4 @@
-use Rattle.lists.proofs.Kit.{now, refl, needs}
+use Rattle.lists.proofs.Kit.{now, refl, arith, needs}
 use Rattle.placing.proofs.Copying.{copy-room, words-through, words-reaching, trial-here}
 use Rattle.placing.proofs.chamber.place_in as it
 
@@ -6,7 +6,8 @@ copy-sections-requires : it.Tie.Need-copy-sections-requires
 copy-sections-requires c κs =
     let r = c .before .before .before in
     let s = r .before .before .before .before .before .before .before in
-    copy-room _ _ _ _ (s .pre .0) (s .pre .1) _ (r .read .ensures) (now (s .args .copy)) (s .pre .3)
+    let h = copy-room _ _ _ _ (s .pre .0) (s .pre .1) _ (r .read .ensures) (now (s .args .copy)) (s .pre .3) in
+    (omega (arith, h .0), omega (arith, h .1))
 
 place-group-requires : it.Tie.Need-place-group-requires
 place-group-requires c κs =

@@ -19,17 +19,17 @@ read-requires c κs =
 loop-again : it.Tie.Need-loop-again Inv-loop μ-loop
 loop-again c =
     let f = c .before in let r = f .before in let i = r .before in let l = i .before in let s = l .before .before in
-    tried-more _ _ _ _ _ (l .loop .inv) (i .loop-test .taken) (f .fit .ensures ∙ ap (λ (b : BinSection). fitOf b (s .args .incoming) .answer) (r .read .ensures)) (c .match .keys2)
+    tried-more _ _ _ _ _ (l .loop .inv) (omega (arith, i .loop-test .taken)) (f .fit .ensures ∙ ap (λ (b : BinSection). fitOf b (s .args .incoming) .answer) (r .read .ensures)) (c .match .keys2)
 
 returns : it.Tie.Need-returns Inv-loop μ-loop
 returns c =
     let f = c .before .before in let r = f .before in let i = r .before in let l = i .before in let s = l .before .before in
-    taken-here _ _ _ (s .pre .1) _ (l .loop .inv) _ (i .loop-test .taken) (sym (f .fit .ensures ∙ ap (λ (b : BinSection). fitOf b (s .args .incoming) .answer) (r .read .ensures)) ∙ c .enum-told .given .1)
+    taken-here _ _ _ (s .pre .1) _ (l .loop .inv) _ (omega (arith, i .loop-test .taken)) (sym (f .fit .ensures ∙ ap (λ (b : BinSection). fitOf b (s .args .incoming) .answer) (r .read .ensures)) ∙ c .enum-told .given .1)
 
 returns-2 : it.Tie.Need-returns-2 Inv-loop μ-loop
 returns-2 c =
     let l = c .before in let s = l .before .before in
-    taken-nowhere _ _ _ (s .pre .1) _ (l .loop .inv) (c .loop-test .left)
+    taken-nowhere _ _ _ (s .pre .1) _ (l .loop .inv) (omega (arith, c .loop-test .left))
 
 pub last-fitting-spec : {M : Type 1} → it.Statement.statement M
 last-fitting-spec =
