@@ -1,5 +1,5 @@
 -- Laws of a group that is placed rectangle by rectangle: the first i are placed, or one of them stops the trial.
-use Prim.Native.Nat.{ℕ, _+_, _*_, _≤_, _<_}
+use Prim.Native.Nat.{ℕ, _+_, _≤_, _<_}
 use mathlib.Core.Path.{_≡_, refl, sym, ap, _∙_}
 use mathlib.Core.List.{List, [], _∷_, _++_, map}
 use native.Mathlib.Numerals.{add-one}
@@ -8,7 +8,6 @@ use lib.ListN.{length, getD, take, drop, take-append-drop, length-map}
 use lib.Seq.{take-suc, take-length}
 use Rattle.lists.specs.Tab.{tab}
 use Rattle.lists.proofs.Tabs.{tab-suc}
-use Rattle.bin_section.specs.declared.section.BinSection.{BinSection}
 use Rattle.bin_section.specs.Section.{sectionAt}
 use Rattle.sections.specs.Sections.{sections}
 use Rattle.sections.specs.Leaning.{Appended}
@@ -21,7 +20,7 @@ use Rattle.packing_rules.specs.Promises.{locationBox}
 use Rattle.packing_rules.proofs.Placings.{trial-more, trial-stops}
 use Rattle.placing.specs.declared.place.PlacedRect.{PlacedRect}
 use Rattle.placing.specs.declared.place.Spot.the-variants.{At, Nowhere}
-use Rattle.placing.specs.Leaning.{Reaching, RoomAfter, PlacedOne, rectIn, GroupOf, RoomThrough}
+use Rattle.placing.specs.Leaning.{Reaching, RoomAfter, PlacedOne, rectIn, RoomThrough}
 use Rattle.placing.specs.Step.{locationOf, locations}
 use Rattle.placing.proofs.Reaches.{still-reaching}
 

@@ -4,14 +4,10 @@ use mathlib.Core.Path.{_≡_, refl, sym, ap, _∙_}
 use mathlib.Core.List.{List}
 use lib.ListN.{length, replicate}
 use Rattle.replies.specs.declared.reply.Reply.{Reply}
-use Rattle.bin_section.specs.declared.section.BinSection.{BinSection}
 use Rattle.replies.specs.Replies.{reply, inOrder}
-use Rattle.target_bin.specs.Chambers.{chamberAt}
 use Rattle.replies.proofs.Ladders.{AllPass, row-passes, alone-fires, past-all}
 use Rattle.grouped_rects_to_place.specs.Rect.{rectAt, rectCount}
-use Rattle.grouped_rects_to_place.specs.Groups.{groupsOf}
-use Rattle.packing_rules.specs.Order.{trialOrder}
-use Rattle.packing_rules.specs.Packing.{state, packGroups, start, packing}
+use Rattle.packing_rules.specs.Packing.{start, packing}
 use Rattle.rectangle_pack.specs.Pack.{rectChecks, packChecks, PackOutcome, packOutcome, written, packOf}
 use Rattle.placement.specs.Placements.{placementWidth}
 use Rattle.packing_rules.specs.Seats.{unplaced}

@@ -1,18 +1,15 @@
 -- Laws of a group that takes its seats, one rectangle after the other.
 use Prim.Native.Nat.{ℕ, _+_, _*_, _≤_, _<_}
-use mathlib.Core.Path.{_≡_, refl, sym, ap, _∙_}
-use mathlib.Core.List.{List, [], _∷_, _++_, map}
+use mathlib.Core.Path.{_≡_, refl, ap, _∙_}
+use mathlib.Core.List.{List}
 use native.Mathlib.Numerals.{add-one}
 use native.Mathlib.Omega.{arith}
 use lib.ListN.{length, getD, take, length-take}
 use lib.Seq.{take-suc, take-length}
-use Rattle.lists.specs.Tab.{tab, put}
-use Rattle.lists.proofs.Tabs.{tab-suc}
+use Rattle.lists.specs.Tab.{put}
 use Rattle.bin_section.specs.declared.section.BinSection.{BinSection}
 use Rattle.bin_section.specs.Section.{sectionAt}
-use Rattle.sections.specs.Sections.{sections}
 use Rattle.placement.specs.Placements.{placementWidth, placementWords}
-use Rattle.placement.specs.Leaning.{HasPlacement}
 use Rattle.packing_rules.specs.Seats.{Seat, seat, seated}
 use Rattle.packing_rules.proofs.Seats.{length-seated, seated-more}
 use Rattle.placing.specs.Step.{locationOf, locations}

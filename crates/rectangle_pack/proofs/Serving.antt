@@ -21,13 +21,13 @@ use Rattle.try_place.specs.declared.packed_location.PackedLocation.{PackedLocat
 use Rattle.target_bin.specs.declared.chamber.TargetBin.{TargetBin}
 use Rattle.target_bin.specs.Chambers.{chamberAt, chamberCount}
 use Rattle.target_bin.specs.Leaning.{Shaped}
-use Rattle.target_bin.specs.Store.{partAt, freeAt, freeOf}
+use Rattle.target_bin.specs.Store.{freeAt, freeOf}
 use Rattle.target_bin.proofs.Parts.{length-partAt, lent-part, partAt-put-same, only-in, free-set}
 use Rattle.target_bin.proofs.Tables.{chamberAt-set-same, chamberAt-set-other}
 use Rattle.grouped_rects_to_place.specs.declared.rect_to_place.RectToPlace.{RectToPlace}
 use Rattle.packing_rules.specs.Rules.{placeOne, whole, isWhole}
 use Rattle.packing_rules.specs.Packing.{rectsAt, trialIn, mostSections}
-use Rattle.packing_rules.specs.Promises.{Serves, NoneServes}
+use Rattle.packing_rules.specs.Promises.{NoneServes}
 use Rattle.packing_rules.proofs.Left.{placings-free, inside-reachable, inside-passes}
 use Rattle.packing_rules.proofs.Placings.{group-placings, stops-first}
 use Rattle.placing.proofs.Placed.{not-placed}
@@ -38,7 +38,7 @@ use Rattle.placing.specs.Leaning.{isPlaced, Ready}
 use Rattle.placing.specs.Step.{locations, trialOf}
 use Rattle.rectangle_pack.specs.declared.groups.Fit.{Fit}
 use Rattle.rectangle_pack.specs.declared.groups.Fit.the-variants.{In, Nowhere}
-use Rattle.rectangle_pack.specs.Leaning.{fitOf, FitHere, FirstFit, SameShape, KeptIn, Grouped}
+use Rattle.rectangle_pack.specs.Leaning.{fitOf, FitHere, FirstFit, KeptIn, Grouped}
 
 -- ---- one chamber
 

@@ -14,7 +14,7 @@ use Rattle.target_bin.specs.Leaning.{Shaped}
 use Rattle.target_bin.specs.Store.{partAt, freeOf}
 use Rattle.grouped_rects_to_place.specs.declared.rect_to_place.RectToPlace.{RectToPlace}
 use Rattle.replies.specs.declared.reply.Reply.{Reply}
-use Rattle.grouped_rects_to_place.specs.Rect.{rectAt, rectWidth, rectCount}
+use Rattle.grouped_rects_to_place.specs.Rect.{rectWidth, rectCount}
 use Rattle.grouped_rects_to_place.specs.Leaning.{GoodRects}
 use Rattle.grouped_rects_to_place.specs.Groups.{groupsOf}
 use Rattle.placement.specs.Placements.{placementWidth}

@@ -4,7 +4,7 @@ use mathlib.Core.Path.{_≡_, refl, sym, ap, ap₂, _∙_}
 use mathlib.Core.List.{List, [], _∷_, _++_, append-nil}
 use native.Mathlib.Numerals.{add-one}
 use native.Mathlib.Omega.{arith}
-use native.Mathlib.Decide.{decLt, ℕ-discrete}
+use native.Mathlib.Decide.{decLt}
 use lib.ListN.{length, getD, take, drop, replicate, length-drop, length-replicate, getD-replicate, take-append-drop, drop-of-length-le, List·getD-eq-default}
 use lib.Seq.{getD-drop, ext-getD}
 use Rattle.lists.specs.Tab.{put}
@@ -40,16 +40,6 @@ appended w count s room =
     }
 
 -- ---- what stands past the count
-
-pub zeros-removed : {count i : ℕ} {w v : List ℕ} → i < count → Removed count i w v → ZeroPast count w → ZeroPast (count - 1) v
-zeros-removed {count} {i} {w} {v} h r z = record { zeros = λ k above. go k above (ℕ-discrete k (count - 1)) }
-  where
-    go : (k : ℕ) → count - 1 ≤ k → Dec (k ≡ count - 1) → sectionAt v k ≡ zeroSection
-    go k above (yes e) = rw e (r .freed)
-    go k above (no ne) = r .past k (omega arith) ∙ z .zeros k (omega arith)
-
-pub zeros-appended : {count : ℕ} {s : BinSection} {w v : List ℕ} → Appended count s w v → ZeroPast count w → ZeroPast (count + 1) v
-zeros-appended a z = record { zeros = λ k above. a .past k (omega arith) ∙ z .zeros k (omega arith) }
 
 six-zeros : (m : ℕ) → getD (sectionWords zeroSection) m 0 ≡ 0
 six-zeros zero = refl

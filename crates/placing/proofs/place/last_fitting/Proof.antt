@@ -1,4 +1,4 @@
-use Rattle.lists.proofs.Kit.{needs, sym, ap, _∙_, arith, _-_, now}
+use Rattle.lists.proofs.Kit.{needs, sym, ap, _∙_, arith, _-_}
 use Rattle.placing.proofs.Finding.{Tried, tried-none, tried-more}
 use Rattle.placing.proofs.Placed.{taken-here, taken-nowhere}
 use Rattle.bin_section.specs.declared.section.BinSection.{BinSection}

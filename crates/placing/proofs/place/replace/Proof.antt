@@ -1,6 +1,4 @@
-use Rattle.lists.proofs.Kit.{arith, ap, _∙_, List, needs}
-use mathlib.Core.List.{_++_}
-use Rattle.bin_section.specs.declared.section.BinSection.{BinSection}
+use Rattle.lists.proofs.Kit.{needs}
 use Rattle.try_place.proofs.Remaining.{chosen-small}
 use Rattle.placing.proofs.place.replace as it
 

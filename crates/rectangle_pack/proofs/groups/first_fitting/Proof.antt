@@ -1,4 +1,4 @@
-use Rattle.lists.proofs.Kit.{needs, arith, _-_, _≤_, _≡_, refl, sym, _∙_, length, getD}
+use Rattle.lists.proofs.Kit.{needs, arith, _-_, _≤_, _≡_, refl, _∙_, length, getD}
 use Rattle.lists.proofs.Lowests.{None, none-zero, none-more}
 use Rattle.lists.proofs.Sorts.{each-at}
 use Rattle.target_bin.specs.Store.{freeOf}
