@@ -9,7 +9,6 @@ use lib.ListN.{length, getD}
 use Rattle.lists.proofs.Flags.{true-false, false-of}
 use Rattle.lists.proofs.Sorts.{each-head, each-second}
 use Rattle.bin_section.specs.declared.section.BinSection.{BinSection}
-use Rattle.bin_section.specs.declared.rect_to_insert.RectToInsert.{RectToInsert}
 use Rattle.bin_section.specs.Section.{zeroSection}
 use Rattle.replies.specs.declared.reply.Reply.{Reply}
 use Rattle.replies.specs.Replies.{reply}
@@ -21,7 +20,7 @@ use Rattle.grouped_rects_to_place.specs.Groups.{groupsOf}
 use Rattle.grouped_rects_to_place.proofs.Sizes.{Group, groups-each, ungrouped-alone}
 use Rattle.packing_rules.specs.Order.{trialOrder}
 use Rattle.packing_rules.specs.Rules.{nowhere, placed, placeOne, afterOne, placeAll, placeGroup, isWhole}
-use Rattle.packing_rules.specs.Packing.{rectsAt, trialIn, State, Ended, ended, packGroups, start, packing}
+use Rattle.packing_rules.specs.Packing.{rectOf, rectsAt, trialIn, State, Ended, ended, packGroups, start, packing}
 use Rattle.packing_rules.specs.Promises.{NoSectionFits, NoneServes, RefusedAt}
 use Rattle.packing_rules.proofs.Placings.{placed-at, nowhere-at}
 use Rattle.packing_rules.proofs.Turns.{turn-served, turn-refused, no-turn, by-turns}
@@ -95,10 +94,6 @@ refused-first chambers store rects =
     (done-or-refused (trialOrder chambers) (λ k. chamberAt chambers k .id) (rectAt rects) (groupsOf (rectCount rects) (rectAt rects)) (start chambers store rects))
 
 -- ---- an ungrouped rectangle
-
--- the rectangle at an index
-abbrev pub rectOf : (ℕ → RectToPlace) → ℕ → RectToInsert
-rectOf r i = record { whd = r i .whd }
 
 module _ (r : ℕ → RectToPlace) (i : ℕ) where
   -- it goes into a chamber exactly when a free section there fits it

@@ -18,10 +18,10 @@ use Rattle.try_place.specs.declared.packed_location.PackedLocation.{PackedLocat
 use Rattle.grouped_rects_to_place.specs.declared.rect_to_place.RectToPlace.{RectToPlace}
 use Rattle.packing_rules.specs.Rules.{Trial, stops, whole, isWhole}
 use Rattle.packing_rules.specs.Seats.{home, seated, dealt}
-use Rattle.packing_rules.specs.Packing.{trialIn, firstWhole, housed, after, placeGroups, rectsAt, answerOf, State, state, Ended, ended, packGroups}
+use Rattle.packing_rules.specs.Packing.{trialIn, firstWhole, housed, servedFirst, placeGroups, rectsAt, answerOf, State, state, Ended, ended, packGroups}
 use Rattle.packing_rules.specs.Promises.{Serves, NoneServes}
 
-pub is-whole : (t : Trial) → isWhole t ≡ true → (ls : List PackedLocation) × (free : List BinSection) × (t ≡ whole ls free)
+is-whole : (t : Trial) → isWhole t ≡ true → (ls : List PackedLocation) × (free : List BinSection) × (t ≡ whole ls free)
 is-whole (stops i free) e = absurd (true-false (sym e))
 is-whole (whole ls free) e = (ls, free, refl)
 
@@ -55,7 +55,7 @@ module _ (order : List ℕ) (g : List RectToInsert) (frees : List (List BinSecti
       (gs : List (List RectToInsert)) (t : ℕ) (ls : List PackedLocation) (free : List BinSection)
       → Serves order g frees t
       → trialIn g frees (getD order t 0) ≡ whole ls free
-      → placeGroups order (g ∷ gs) frees ≡ after (home (getD order t 0) ls) (placeGroups order gs (set frees (getD order t 0) free))
+      → placeGroups order (g ∷ gs) frees ≡ servedFirst (home (getD order t 0) ls) (placeGroups order gs (set frees (getD order t 0) free))
   unfolding placeGroups
   group-served gs t ls free p e = rw (serves-place t p, lt-ltb t (length order) (p .within), e)
 

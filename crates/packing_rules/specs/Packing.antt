@@ -37,8 +37,8 @@ abbrev pub housed : List Home → List (List BinSection) → Housed
 housed homes frees = record { homes = homes; frees = frees }
 
 -- one group more was served before all these
-abbrev pub after : Home → Housed → Housed
-after h p = housed (h ∷ p .homes) (p .frees)
+abbrev pub servedFirst : Home → Housed → Housed
+servedFirst h p = housed (h ∷ p .homes) (p .frees)
 
 -- "The first chamber where all fit is changed so; others aren't. If none serves, .. the later groups are not tried, and earlier groups stay."
 unfoldable pub placeGroups : List ℕ → List (List RectToInsert) → List (List BinSection) → Housed
@@ -48,14 +48,18 @@ placeGroups order (group ∷ groups) frees =
     let k = getD order t 0 in
     let trial = trialIn group frees k in
     cond (ltb t (length order))
-    (after (home k (locationsOf trial)) (placeGroups order groups (set frees k (freeThen trial))))
+    (servedFirst (home k (locationsOf trial)) (placeGroups order groups (set frees k (freeThen trial))))
     (housed [] frees)
 
 -- ---- Groups as lists of indices: the answer, and the seats dealt out.
 
+-- the rectangle at an index, without its id and group
+abbrev pub rectOf : (ℕ → RectToPlace) → ℕ → RectToInsert
+rectOf r i = record { whd = r i .whd }
+
 -- the rectangles of a group, which is given by their indices in table order
 unfoldable pub rectsAt : (ℕ → RectToPlace) → List ℕ → List RectToInsert
-rectsAt r group = map (λ i. record { whd = r i .whd }) group
+rectsAt r group = map (rectOf r) group
 
 -- "If none serves, the answer is 7", with the first index of the group that has no home
 unfoldable pub answerOf : List (List ℕ) → List Home → Reply

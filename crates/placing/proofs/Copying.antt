@@ -4,14 +4,11 @@ use mathlib.Core.Path.{_≡_, refl, sym, ap, _∙_}
 use mathlib.Core.Bool.{Bool}
 use mathlib.Core.List.{List, []}
 use native.Mathlib.Omega.{arith}
-use lib.ListN.{length, getD, take, drop, length-take}
-use lib.Seq.{take-at}
-use Rattle.lists.specs.Tab.{put}
+use lib.ListN.{length, getD, take, drop}
 use Rattle.lists.proofs.Sorts.{each-map}
 use Rattle.bin_section.specs.declared.section.BinSection.{BinSection}
 use Rattle.bin_section.specs.declared.rect_to_insert.RectToInsert.{RectToInsert}
 use Rattle.sections.specs.Sections.{sections}
-use Rattle.sections.proofs.Reading.{length-sections, encoded, decoded}
 use Rattle.target_bin.specs.declared.chamber.TargetBin.{TargetBin}
 use Rattle.target_bin.specs.Chambers.{chamberAt, chamberCount}
 use Rattle.target_bin.specs.Store.{freeAt, freeOf}
@@ -21,16 +18,8 @@ use Rattle.packing_rules.specs.Rules.{Trial, placeOne, placeGroup}
 use Rattle.packing_rules.specs.Packing.{rectsAt, trialIn, mostSections}
 use Rattle.packing_rules.proofs.Left.{inside-reachable}
 use Rattle.packing_rules.proofs.Room.{part-most, most-part}
-use Rattle.placing.specs.Leaning.{isPlaced, Reaching, RoomThrough, Ready}
+use Rattle.placing.specs.Leaning.{isSomewhere, Reaching, RoomThrough, Ready}
 use Rattle.placing.proofs.Reaches.{each-reaching}
-
--- the first n sections, copied to the front
-pub copied-sections : (from to to′ : List ℕ) (n k : ℕ) → n * 6 ≤ length from → to′ ≡ put to 0 (take k from) → k ≡ n * 6 → sections to′ n ≡ sections from n
-unfolding put
-copied-sections from to to′ n k room e′ all =
-    let e : to′ ≡ put to 0 (take (n * 6) from) = e′ ∙ ap (λ (j : ℕ). put to 0 (take j from)) all in
-    decoded (sections from n) to′ n (length-sections from n)
-    (ap (take (n * 6)) e ∙ take-at (take (n * 6) from) _ (n * 6) (length-take (n * 6) from ∙ omega arith) ∙ sym (encoded from n room))
 
 -- what is ready for n rectangles is so for fewer
 pub ready-part : (c st : List ℕ) (m n : ℕ) → Ready c st n → m ≤ n → Ready c st m
@@ -78,5 +67,5 @@ module _ (c st : List ℕ) (k n : ℕ) (ready : Ready c st n) (here : k < chambe
     unfolding trialIn
     trial-here t r group e = e ∙ ap (λ (free : List BinSection). placeGroup free (rectsAt r group)) words-free
 
-  pub place-here : (b : Bool) (q : RectToInsert) → b ≡ isPlaced (placeOne (sections part (bin .count)) q) → b ≡ isPlaced (placeOne (getD (freeOf c st) k []) q)
-  place-here b q e = e ∙ ap (λ (free : List BinSection). isPlaced (placeOne free q)) (words-free part refl)
+  pub place-here : (b : Bool) (q : RectToInsert) → b ≡ isSomewhere (placeOne (sections part (bin .count)) q) → b ≡ isSomewhere (placeOne (getD (freeOf c st) k []) q)
+  place-here b q e = e ∙ ap (λ (free : List BinSection). isSomewhere (placeOne free q)) (words-free part refl)

@@ -24,7 +24,7 @@ use Rattle.try_place.proofs.Remaining.{placed-fitting, placed-is}
 use Rattle.packing_rules.specs.Appended.{appendedOf}
 use Rattle.packing_rules.specs.Rules.{One, nowhere, placed, placeOne}
 use Rattle.placing.specs.declared.place.Spot.the-variants.{At, Nowhere}
-use Rattle.placing.specs.Leaning.{isPlaced, Reaching, TakenAt, RoomAfter, PlacedOne}
+use Rattle.placing.specs.Leaning.{isSomewhere, Reaching, TakenAt, RoomAfter, PlacedOne}
 use Rattle.placing.proofs.Finding.{Tried, tried-placed, tried-all}
 
 -- ---- the search
@@ -36,6 +36,7 @@ module _ (count : ℕ) (r : RectToInsert) (w : List ℕ) (reach : Reaching count
       let reachable = reach .at (i - 1) (omega (arith, done .most)) in
       let is = placed-is s r l reachable fits in
       record {
+        most = omega (arith, done .most);
         fits = λ h. placed-fitting s r l reachable fits;
         here = λ h.
             sym (tried-placed count r w i (record { x = s .x; y = s .y; z = s .z; whd = r .whd }) done some (ap (λ (t : Try.Tried). t .answer) is))
@@ -45,17 +46,17 @@ module _ (count : ℕ) (r : RectToInsert) (w : List ℕ) (reach : Reaching count
 
   pub taken-nowhere : i ≤ 0 → TakenAt count r count w
   taken-nowhere h =
-      record { fits = λ l. absurd (omega arith); here = λ l. absurd (omega arith); none = λ _. sym (tried-all count r w i done h) }
+      record { most = omega arith; fits = λ l. absurd (omega arith); here = λ l. absurd (omega arith); none = λ _. sym (tried-all count r w i done h) }
 
-pub not-placed : (o : One) → isPlaced o ≡ false → o ≡ nowhere
+pub not-placed : (o : One) → isSomewhere o ≡ false → o ≡ nowhere
 not-placed nowhere e = refl
 not-placed (placed l free) e = absurd (true-false e)
 
-pub taken-told : (count : ℕ) (r : RectToInsert) (i : ℕ) (w : List ℕ) → TakenAt count r i w → ltb i count ≡ isPlaced (placeOne (sections w count) r)
+pub taken-told : (count : ℕ) (r : RectToInsert) (i : ℕ) (w : List ℕ) → TakenAt count r i w → ltb i count ≡ isSomewhere (placeOne (sections w count) r)
 taken-told count r i w found =
     elim (decLt i count) [
-      | yes h ↦ lt-ltb i count h ∙ sym (ap isPlaced (found .here h))
-      | no h ↦ let h′ : count ≤ i = omega arith in le-ltb i count h′ ∙ sym (ap isPlaced (found .none h′))
+      | yes h ↦ lt-ltb i count h ∙ sym (ap isSomewhere (found .here h))
+      | no h ↦ let h′ : count ≤ i = omega arith in le-ltb i count h′ ∙ sym (ap isSomewhere (found .none h′))
     ]
 
 -- ---- the placement

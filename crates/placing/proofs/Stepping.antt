@@ -21,46 +21,46 @@ use Rattle.packing_rules.proofs.Placings.{trial-more, trial-stops}
 use Rattle.placing.specs.declared.place.PlacedRect.{PlacedRect}
 use Rattle.placing.specs.declared.place.Spot.the-variants.{At, Nowhere}
 use Rattle.placing.specs.Leaning.{Reaching, RoomAfter, PlacedOne, rectIn, RoomThrough}
-use Rattle.placing.specs.Step.{locationOf, locations}
+use Rattle.placing.specs.Step.{asLocation, locationsIn}
 use Rattle.placing.proofs.Reaches.{still-reaching}
 
 -- ---- the table of locations
 
-pub length-locations : (w : List ℕ) (n : ℕ) → length (locations w n) ≡ n
-unfolding locations
-length-locations w n = length-map (sections w n) locationOf ∙ length-sections w n
+pub length-locations : (w : List ℕ) (n : ℕ) → length (locationsIn w n) ≡ n
+unfolding locationsIn
+length-locations w n = length-map (sections w n) asLocation ∙ length-sections w n
 
 map-append : {A B : Type 0} (f : A → B) (xs ys : List A) → map f (xs ++ ys) ≡ map f xs ++ map f ys
 map-append f [] ys = refl
 map-append f (x ∷ xs) ys = ap (λ l. f x ∷ l) (map-append f xs ys)
 
-pub locations-more : (w w′ : List ℕ) (n : ℕ) (l : PackedLocation) → Appended n (locationBox l) w w′ → locations w′ (n + 1) ≡ locations w n ++ (l ∷ [])
-unfolding locations
-locations-more w w′ n l a = ap (map locationOf) (a .free) ∙ map-append locationOf (sections w n) (locationBox l ∷ [])
+pub locations-more : (w w′ : List ℕ) (n : ℕ) (l : PackedLocation) → Appended n (locationBox l) w w′ → locationsIn w′ (n + 1) ≡ locationsIn w n ++ (l ∷ [])
+unfolding locationsIn
+locations-more w w′ n l a = ap (map asLocation) (a .free) ∙ map-append asLocation (sections w n) (locationBox l ∷ [])
 
-pub locations-next : (w : List ℕ) (n : ℕ) → locations w (n + 1) ≡ locations w n ++ (locationOf (sectionAt w n) ∷ [])
-unfolding locations sections
-locations-next w n = rw (add-one, tab-suc n (sectionAt w)) (map-append locationOf (tab n (sectionAt w)) (sectionAt w n ∷ []))
+pub locations-next : (w : List ℕ) (n : ℕ) → locationsIn w (n + 1) ≡ locationsIn w n ++ (asLocation (sectionAt w n) ∷ [])
+unfolding locationsIn sections
+locations-next w n = rw (add-one, tab-suc n (sectionAt w)) (map-append asLocation (tab n (sectionAt w)) (sectionAt w n ∷ []))
 
 -- ---- the first i rectangles of the group are placed
 
 pub record Placing (rects group : List ℕ) (count : ℕ) (w₀ table₀ : List ℕ) (i left : ℕ) (w table : List ℕ) : Type 0 where
   pub most : i ≤ length group
-  pub so-far : placeGroup (sections w₀ count) (rectsAt (rectAt rects) (take i group)) ≡ whole (locations table i) (sections w left)
+  pub so-far : placeGroup (sections w₀ count) (rectsAt (rectAt rects) (take i group)) ≡ whole (locationsIn table i) (sections w left)
   pub long : length w ≡ length w₀
   pub table-long : length table ≡ length table₀
   pub reach : Reaching left w
 
 module _ (rects group : List ℕ) (count : ℕ) (w₀ table₀ : List ℕ) where
   pub placing-none : Reaching count w₀ → Placing rects group count w₀ table₀ 0 count w₀ table₀
-  unfolding placeGroup placeAll rectsAt locations sections tab
+  unfolding placeGroup placeAll rectsAt locationsIn sections tab
   placing-none reach = record { most = omega arith; so-far = refl; long = refl; table-long = refl; reach = reach }
 
   module _ (i left : ℕ) (w table : List ℕ) (p : Placing rects group count w₀ table₀ i left w table) where
     module _ (h : i < length group) where
       all-next :
           placeGroup (sections w₀ count) (rectsAt (rectAt rects) (take (i + 1) group))
-          ≡ afterOne (locations table i) (sections w left) (placeOne (sections w left) (rectIn rects (getD group i 0)))
+          ≡ afterOne (locationsIn table i) (sections w left) (placeOne (sections w left) (rectIn rects (getD group i 0)))
       unfolding placeGroup
       all-next = rw (add-one, take-suc group i 0 h, trial-more, p .so-far)
 
@@ -70,7 +70,7 @@ module _ (rects group : List ℕ) (count : ℕ) (w₀ table₀ : List ℕ) where
           record {
             here = omega (arith, room .at i _ _ (p .so-far), length-sections w left, p .long);
             at = λ l free e.
-                omega (arith, room .at (i + 1) _ free (all-next ∙ ap (afterOne (locations table i) (sections w left)) e), p .long);
+                omega (arith, room .at (i + 1) _ free (all-next ∙ ap (afterOne (locationsIn table i) (sections w left)) e), p .long);
           }
 
       pub placing-more :
@@ -79,13 +79,13 @@ module _ (rects group : List ℕ) (count : ℕ) (w₀ table₀ : List ℕ) where
           → length table′ ≡ length table
           → q .spot ≡ At l
           → PlacedOne left (rectIn rects (getD group i 0)) q w w′
-          → locations table′ (i + 1) ≡ locations table i ++ (l ∷ [])
+          → locationsIn table′ (i + 1) ≡ locationsIn table i ++ (l ∷ [])
           → Placing rects group count w₀ table₀ (i + 1) (q .count) w′ table′
       placing-more q l w′ table′ lw lt e d f =
           let a : placed l (sections w′ (q .count)) ≡ placeOne (sections w left) (rectIn rects (getD group i 0)) = rw e at (d .answer) in
           record {
             most = omega arith;
-            so-far = all-next ∙ ap (afterOne (locations table i) (sections w left)) (sym a) ∙ ap (λ (ls : List PackedLocation). whole ls (sections w′ (q .count))) (sym f);
+            so-far = all-next ∙ ap (afterOne (locationsIn table i) (sections w left)) (sym a) ∙ ap (λ (ls : List PackedLocation). whole ls (sections w′ (q .count))) (sym f);
             long = lw ∙ p .long;
             table-long = lt ∙ p .table-long;
             reach = still-reaching left (q .count) (rectIn rects (getD group i 0)) l w w′ (p .reach) a;
@@ -102,14 +102,14 @@ module _ (rects group : List ℕ) (count : ℕ) (w₀ table₀ : List ℕ) where
           let a : nowhere ≡ placeOne (sections w left) (rectIn rects (getD group i 0)) = rw e at (d .answer) in
           let s : placeGroup (sections w₀ count) (rectsAt (rectAt rects) (take (i + 1) group)) ≡ stops i (sections w left) =
           all-next
-          ∙ ap (afterOne (locations table i) (sections w left)) (sym a)
+          ∙ ap (afterOne (locationsIn table i) (sections w left)) (sym a)
           ∙ ap (λ (k : ℕ). stops k (sections w left)) (length-locations table i) in
           rw (d .none (sym a) .1)
           (sym (rw (take-append-drop (i + 1) group) at (trial-stops (rectAt rects) (whole [] (sections w₀ count)) i (sections w left) (take (i + 1) group) (drop (i + 1) group) s)))
 
     pub placing-all :
         length group ≤ i
-        → whole (locations table (length group)) (sections w left) ≡ placeGroup (sections w₀ count) (rectsAt (rectAt rects) group)
+        → whole (locationsIn table (length group)) (sections w left) ≡ placeGroup (sections w₀ count) (rectsAt (rectAt rects) group)
     placing-all h =
         let e : i ≡ length group = omega (arith, p .most) in
         sym (rw (e, take-length) at (p .so-far))

@@ -22,7 +22,7 @@ use Rattle.grouped_rects_to_place.specs.declared.rect_to_place.RectToPlace.{Rec
 use Rattle.grouped_rects_to_place.specs.Rect.{rectAt, rectCount}
 use Rattle.packing_rules.specs.Appended.{appendedOf}
 use Rattle.packing_rules.specs.Rules.{One, nowhere, placed, placeOne, whole, placeGroup}
-use Rattle.packing_rules.specs.Packing.{rectsAt, mostSections}
+use Rattle.packing_rules.specs.Packing.{rectOf, rectsAt, mostSections}
 use Rattle.placing.specs.declared.place.PlacedRect.{PlacedRect}
 use Rattle.placing.specs.declared.place.Spot.{Spot}
 use Rattle.placing.specs.declared.place.Spot.the-variants.{At, Nowhere}
@@ -34,12 +34,13 @@ pub record Reaching (count : ℕ) (w : List ℕ) : Type 0 where
 -- ---- one rectangle
 
 -- some section fits
-abbrev pub isPlaced : One → Bool
-isPlaced nowhere = false
-isPlaced (placed l free) = true
+abbrev pub isSomewhere : One → Bool
+isSomewhere nowhere = false
+isSomewhere (placed l free) = true
 
 -- the section at i takes the rectangle, by the rules; where none does, i is count
 pub record TakenAt (count : ℕ) (r : RectToInsert) (i : ℕ) (w : List ℕ) : Type 0 where
+  pub most : i ≤ count
   pub fits : i < count → Fitting (sectionAt w i) r
   pub here :
       i < count
@@ -65,9 +66,9 @@ pub record PlacedOne (count : ℕ) (r : RectToInsert) (p : PlacedRect) (w w′ :
 
 -- ---- a group
 
--- the rectangle at an index of the table, without its id and group
+-- the rectangle at an index of the table
 abbrev pub rectIn : List ℕ → ℕ → RectToInsert
-rectIn rects i = record { whd = rectAt rects i .whd }
+rectIn rects i = rectOf (rectAt rects) i
 
 -- the entries of group are indices of the table
 pub record GroupOf (rects group : List ℕ) : Type 0 where

@@ -9,14 +9,14 @@ use Rattle.placing.specs.declared.step.Step.{Step}
 use Rattle.placing.specs.declared.step.Step.the-variants.{Whole, Stops}
 
 -- a location is kept as the box that stands there
-abbrev pub locationOf : BinSection → PackedLocation
-locationOf b = record { x = b .x; y = b .y; z = b .z; whd = b .whd }
+abbrev pub asLocation : BinSection → PackedLocation
+asLocation b = record { x = b .x; y = b .y; z = b .z; whd = b .whd }
 
 -- the first n locations of a table
-unfoldable pub locations : List ℕ → ℕ → List PackedLocation
-locations w n = map locationOf (sections w n)
+unfoldable pub locationsIn : List ℕ → ℕ → List PackedLocation
+locationsIn w n = map asLocation (sections w n)
 
 -- the trial of m rectangles: they are all in, at these locations, or it stops at one; the copy has the sections that are free then
 abbrev pub trialOf : Step → ℕ → List ℕ → List ℕ → Trial
-trialOf (Whole count) m copy table = whole (locations table m) (sections copy count)
+trialOf (Whole count) m copy table = whole (locationsIn table m) (sections copy count)
 trialOf (Stops i count) m copy table = stops i (sections copy count)

@@ -3,37 +3,26 @@ ghost use mathlib.Core.Path.{_≡_};
 ghost use Prim.Native.Nat.{_*_, _≤_, _<_};
 ghost use mathlib.Core.List.{[]};
 ghost use lib.ListN.{length, getD};
-ghost use Rattle.sections.specs.Sections.{sections};
 ghost use Rattle.target_bin.specs.Chambers.{chamberCount};
 ghost use Rattle.target_bin.specs.Store.{freeOf};
 ghost use Rattle.grouped_rects_to_place.specs.Rect.{rectAt};
 ghost use Rattle.grouped_rects_to_place.specs.Leaning.{HasRect};
 ghost use Rattle.packing_rules.specs.Rules.{placeOne};
 ghost use Rattle.packing_rules.specs.Packing.{rectsAt, trialIn};
-ghost use Rattle.placing.specs.Leaning.{isPlaced, rectIn, GroupOf, Ready};
+ghost use Rattle.placing.specs.Leaning.{isSomewhere, rectIn, GroupOf, Ready};
 ghost use Rattle.placing.specs.Step.{trialOf};
 use crate::place::last_fitting;
 use crate::step::Step;
 use crate::step::place_group;
-use bin_section::BinSection;
 use bin_section::RectToInsert;
 use grouped_rects_to_place::RectToPlace;
+use sections::copy_sections;
 use target_bin::TargetBin;
-use words::put_words;
-
-// Copies the first n sections of one list to the front of another, and no more.
-pub fn copy_sections(from: &[u32], n: usize, to: &mut [u32])
-    requires { ⌜ (n * 6 ≤ length (now from)) × (n * 6 ≤ length (now to)) ⌝ }
-    ensures { λ _. ⌜ sections (now (to .exit)) n ≡ sections (now (from .entry)) n ⌝ }
-{
-    let end = n * BinSection::WORDS;
-    put_words(to, 0, &from[0..end]);
-}
 
 // Whether the chamber at k has a section that fits the rectangle at index i. It reads the store, and copies nothing.
 pub fn has_place(chambers: &[u32], store: &[u32], k: usize, rects: &[u32], i: usize) -> bool
     requires { ⌜ Ready (now chambers) (now store) 0 × (k < chamberCount (now chambers)) × HasRect (now rects) i ⌝ }
-    ensures { λ b. ⌜ b ≡ isPlaced (placeOne (getD (freeOf (now (chambers .entry)) (now (store .entry))) k []) (rectIn (now (rects .entry)) i)) ⌝ }
+    ensures { λ b. ⌜ b ≡ isSomewhere (placeOne (getD (freeOf (now (chambers .entry)) (now (store .entry))) k []) (rectIn (now (rects .entry)) i)) ⌝ }
 {
     let bin = TargetBin::read(chambers, k);
     let count = bin.count as usize;
@@ -52,17 +41,17 @@ pub fn place_in(
     rects: &[u32],
     group: &[usize],
     copy: &mut [u32],
-    table: &mut [u32],
+    locations: &mut [u32],
 ) -> Step
     requires { ⌜
         Ready (now chambers) (now store) (length (now group))
         × (k < chamberCount (now chambers))
         × GroupOf (now rects) (now group)
         × (length (now copy) ≡ 768)
-        × (length (now group) * 6 ≤ length (now table))
+        × (length (now group) * 6 ≤ length (now locations))
         ⌝ }
     ensures { λ s. ⌜
-        trialOf s (length (now (group .entry))) (now (copy .exit)) (now (table .exit))
+        trialOf s (length (now (group .entry))) (now (copy .exit)) (now (locations .exit))
         ≡ trialIn (rectsAt (rectAt (now (rects .entry))) (now (group .entry))) (freeOf (now (chambers .entry)) (now (store .entry))) k
         ⌝ }
 {
@@ -71,5 +60,5 @@ pub fn place_in(
     let start = k * TargetBin::STORE;
     let end = start + TargetBin::STORE;
     copy_sections(&store[start..end], count, copy);
-    place_group(copy, count, rects, group, table)
+    place_group(copy, count, rects, group, locations)
 }

@@ -4,11 +4,6 @@ mod chamber;
 mod place;
 mod step;
 
-pub use chamber::copy_sections;
 pub use chamber::has_place;
 pub use chamber::place_in;
-pub use place::PlacedRect;
-pub use place::Spot;
-pub use place::place_rect;
 pub use step::Step;
-pub use step::place_group;

@@ -10,7 +10,7 @@ ghost use Rattle.grouped_rects_to_place.specs.Leaning.{HasRect};
 ghost use Rattle.packing_rules.specs.Rules.{placeGroup};
 ghost use Rattle.packing_rules.specs.Packing.{rectsAt};
 ghost use Rattle.placing.specs.Leaning.{RoomAfter, Reaching, PlacedOne, rectIn, GroupOf, RoomThrough};
-ghost use Rattle.placing.specs.Step.{locations, trialOf};
+ghost use Rattle.placing.specs.Step.{locationsIn, trialOf};
 use crate::place::PlacedRect;
 use crate::place::Spot;
 use crate::place::place_rect;
@@ -20,11 +20,11 @@ use grouped_rects_to_place::RectToPlace;
 use sections::append_section;
 use try_place::PackedLocation;
 
-// What a step comes to. The copy then has so many free sections.
+// What a step comes to.
 pub enum Step {
-    // All went in, each at its location.
+    // All went in, each at its location; so many sections of the copy are free then.
     Whole(usize),
-    // The rectangle at this place of the group fits none of them.
+    // The rectangle at this place of the group fits no section; so many of the copy are free then.
     Stops(usize, usize),
 }
 
@@ -39,31 +39,31 @@ fn place_next(copy: &mut [u32], count: usize, rects: &[u32], i: usize) -> Placed
 }
 
 // Puts a location after the first n.
-fn append_location(table: &mut [u32], n: usize, location: PackedLocation)
-    requires { ⌜ n * 6 + 6 ≤ length (now table) ⌝ }
-    ensures { λ _. ⌜ locations (now (table .exit)) (n + 1) ≡ locations (now (table .entry)) n ++ (location ∷ []) ⌝ }
+fn append_location(locations: &mut [u32], n: usize, location: PackedLocation)
+    requires { ⌜ n * 6 + 6 ≤ length (now locations) ⌝ }
+    ensures { λ _. ⌜ locationsIn (now (locations .exit)) (n + 1) ≡ locationsIn (now (locations .entry)) n ++ (location ∷ []) ⌝ }
 {
     let stands = BinSection::new(location.x, location.y, location.z, location.whd);
-    append_section(table, n, stands);
+    append_section(locations, n, stands);
 }
 
 // "for each rectangle the free sections are tried": the group on the first `count` sections of the copy, in table order. The locations go to
-// the front of their table.
+// the front of `locations`.
 pub fn place_group(
     copy: &mut [u32],
     count: usize,
     rects: &[u32],
     group: &[usize],
-    table: &mut [u32],
+    locations: &mut [u32],
 ) -> Step
     requires { ⌜
         RoomThrough count (rectAt (now rects)) (now group) (now copy)
         × Reaching count (now copy)
         × GroupOf (now rects) (now group)
-        × (length (now group) * 6 ≤ length (now table))
+        × (length (now group) * 6 ≤ length (now locations))
         ⌝ }
     ensures { λ s. ⌜
-        trialOf s (length (now (group .entry))) (now (copy .exit)) (now (table .exit))
+        trialOf s (length (now (group .entry))) (now (copy .exit)) (now (locations .exit))
         ≡ placeGroup (sections (now (copy .entry)) count) (rectsAt (rectAt (now (rects .entry))) (now (group .entry)))
         ⌝ }
 {
@@ -75,7 +75,7 @@ pub fn place_group(
         let Spot::At(location) = spot else {
             return Step::Stops(i, left);
         };
-        append_location(table, i, location);
+        append_location(locations, i, location);
         left = placed.count;
     }
     Step::Whole(left)

@@ -33,7 +33,7 @@ use Rattle.packing_rules.specs.Packing.{rectsAt, state, Ended, packGroups}
 use Rattle.packing_rules.proofs.TrialOrders.{trial-below}
 use Rattle.packing_rules.proofs.Turns.{turn-served, turn-refused, no-turn}
 use Rattle.placing.specs.Leaning.{GroupOf, Ready}
-use Rattle.placing.specs.Step.{locations}
+use Rattle.placing.specs.Step.{locationsIn}
 use Rattle.rectangle_pack.specs.declared.groups.Fit.{Fit}
 use Rattle.rectangle_pack.specs.declared.groups.Fit.the-variants.{In, Nowhere}
 use Rattle.rectangle_pack.specs.Pack.{binsWith, packOutcome, written}
@@ -160,7 +160,7 @@ module _ (r : ℕ → RectToPlace) (n : ℕ) (c₀ st₀ p₀ : List ℕ) where
         here = rw (found .2) at (each-at (rw ord at order-still) (found .0) 0 (found .1 .within))
 
         pub record-there : k * 5 + 5 ≤ length c′
-        record-there = omega (arith, here, found .5 .same .long, s .ready .shaped .whole)
+        record-there = omega (arith, here, found .6 .same .long, s .ready .shaped .whole)
 
         pub running-more :
             (p′ : List ℕ) (b : TargetBin)
@@ -170,20 +170,20 @@ module _ (r : ℕ → RectToPlace) (n : ℕ) (c₀ st₀ p₀ : List ℕ) where
             → Running r n c₀ st₀ p₀ (i + 1) c′ st′ p′
         running-more p′ b read lp sat =
             let u = found in
-            let kept = u .5 in
-            let ls = locations table (length group) in
+            let kept = u .6 in
+            let ls = locationsIn table (length group) in
             let id : b .id ≡ ids k = ap (λ (x : TargetBin). x .id) read ∙ kept .same .ids k ∙ s .same .ids k in
             record {
               most = omega (arith, groups-long n r leads led);
               same = same-through c₀ c c′ (s .same) (kept .same);
-              ready = ready-next c st c′ st′ group r k (total length (drop (i + 1) gs)) ls (u .3) (rw total-next at (s .ready)) here (u .4) kept;
+              ready = ready-next c st c′ st′ group r k (total length (drop (i + 1) gs)) ls (u .3) (rw total-next at (s .ready)) here (u .5) kept;
               long = lp ∙ s .long;
               so-far = λ seats₀ e.
                   let w = s .so-far seats₀ e in
                   let at = state (freeOf c st) (w .0) in (
                     seated (ids k) group ls (w .0),
                     rw (← id) (sat .seats (w .0) (w .1)),
-                    w .2 ∙ rw (next, turn-served O ids r group (drop (i + 1) gs) at (u .0) ls (u .3) (u .1) (rw (u .2) (u .4)), u .2, kept .frees),
+                    w .2 ∙ rw (next, turn-served O ids r group (drop (i + 1) gs) at (u .0) ls (u .3) (u .1) (rw (u .2) (u .5)), u .2, kept .frees),
                   );
             }
 

@@ -12,7 +12,7 @@ use Rattle.bin_section.specs.Section.{sectionAt}
 use Rattle.placement.specs.Placements.{placementWidth, placementWords}
 use Rattle.packing_rules.specs.Seats.{Seat, seat, seated}
 use Rattle.packing_rules.proofs.Seats.{length-seated, seated-more}
-use Rattle.placing.specs.Step.{locationOf, locations}
+use Rattle.placing.specs.Step.{asLocation, locationsIn}
 use Rattle.placing.proofs.Stepping.{length-locations, locations-next}
 use Rattle.rectangle_pack.specs.Records.{placementOf, placementsOf}
 use Rattle.rectangle_pack.specs.Leaning.{SeatsFor, Seated}
@@ -22,7 +22,7 @@ use Rattle.rectangle_pack.proofs.Tables.{length-placements, placements-
 pub record Seating (id : ℕ) (group table p₀ : List ℕ) (i : ℕ) (p : List ℕ) : Type 0 where
   pub most : i ≤ length group
   pub long : length p ≡ length p₀
-  pub seats : (ss : List Seat) → p₀ ≡ placementsOf ss → p ≡ placementsOf (seated id (take i group) (locations table i) ss)
+  pub seats : (ss : List Seat) → p₀ ≡ placementsOf ss → p ≡ placementsOf (seated id (take i group) (locationsIn table i) ss)
 
 module _ (id : ℕ) (group table p₀ : List ℕ) where
   pub seating-none : Seating id group table p₀ 0 p₀
@@ -36,27 +36,27 @@ module _ (id : ℕ) (group table p₀ : List ℕ) where
         → SeatsFor group p₀
         → b ≡ sectionAt table i
         → length p′ ≡ length p
-        → p′ ≡ put p (getD group i 0 * placementWidth) (placementWords (placementOf (seat id (locationOf b))))
+        → p′ ≡ put p (getD group i 0 * placementWidth) (placementWords (placementOf (seat id (asLocation b))))
         → Seating id group table p₀ (i + 1) p′
     seating-more p′ b h room e lp f =
         record {
           most = omega arith;
           long = lp ∙ s .long;
           seats = λ ss g.
-              let S = seated id (take i group) (locations table i) ss in
+              let S = seated id (take i group) (locationsIn table i) ss in
               let small : getD group i 0 < length S =
-              omega (arith, room .at i h, ap length g, length-placements ss, length-seated id (take i group) (locations table i) ss) in
-              let taken : length (take i group) ≡ length (locations table i) = length-take i group ∙ omega (arith, length-locations table i) in
+              omega (arith, room .at i h, ap length g, length-placements ss, length-seated id (take i group) (locationsIn table i) ss) in
+              let taken : length (take i group) ≡ length (locationsIn table i) = length-take i group ∙ omega (arith, length-locations table i) in
               rw (
                 f,
                 s .seats ss g,
-                placements-put S (getD group i 0) (seat id (locationOf b)) small,
+                placements-put S (getD group i 0) (seat id (asLocation b)) small,
                 add-one,
                 take-suc group i 0 h,
                 ← add-one,
                 locations-next table i,
                 ← e,
-                seated-more id (getD group i 0) (take i group) (locationOf b) (locations table i) ss taken,
+                seated-more id (getD group i 0) (take i group) (asLocation b) (locationsIn table i) ss taken,
               );
         }
 

@@ -34,16 +34,16 @@ use Rattle.placing.proofs.Placed.{not-placed}
 use Rattle.packing_rules.proofs.Room.{group-most, most-part, most-least}
 use Rattle.placing.specs.declared.step.Step.{Step}
 use Rattle.placing.specs.declared.step.Step.the-variants.{Whole, Stops}
-use Rattle.placing.specs.Leaning.{isPlaced, Ready}
-use Rattle.placing.specs.Step.{locations, trialOf}
+use Rattle.placing.specs.Leaning.{isSomewhere, Ready}
+use Rattle.placing.specs.Step.{locationsIn, trialOf}
 use Rattle.rectangle_pack.specs.declared.groups.Fit.{Fit}
 use Rattle.rectangle_pack.specs.declared.groups.Fit.the-variants.{In, Nowhere}
-use Rattle.rectangle_pack.specs.Leaning.{fitOf, FitHere, FirstFit, KeptIn, Grouped}
+use Rattle.rectangle_pack.specs.Leaning.{fitFrom, FitHere, FirstFit, KeptIn, Grouped}
 
 -- ---- one chamber
 
 module _ (group : List RectToInsert) (frees : List (List BinSection)) (m k : ℕ) (copy table : List ℕ) where
-  pub fit-step : (f : Fit) (s : Step) → f ≡ fitOf k s → trialOf s m copy table ≡ trialIn group frees k → FitHere f k group frees m copy table
+  pub fit-step : (f : Fit) (s : Step) → f ≡ fitFrom k s → trialOf s m copy table ≡ trialIn group frees k → FitHere f k group frees m copy table
   fit-step f (Whole n) e d = rw e (refl, sym d)
   fit-step f (Stops i n) e d = rw e (ap isWhole (sym d))
 
@@ -51,7 +51,7 @@ module _ (group : List RectToInsert) (frees : List (List BinSection)) (m k : ℕ
 pub first-stops :
     (r : ℕ → RectToPlace) (group : List ℕ) (frees : List (List BinSection)) (k : ℕ) (b : Bool)
     → 0 < length group
-    → b ≡ isPlaced (placeOne (getD frees k []) (record { whd = r (getD group 0 0) .whd }))
+    → b ≡ isSomewhere (placeOne (getD frees k []) (record { whd = r (getD group 0 0) .whd }))
     → b ≡ false
     → isWhole (trialIn (rectsAt r group) frees k) ≡ false
 unfolding trialIn rectsAt
@@ -168,12 +168,12 @@ module _ (c st order group : List ℕ) (r : ℕ → RectToPlace) (m : ℕ) (copy
           arith,
           length-sections copy n,
           most-least (length (sections copy n)) 0,
-          group-most r (getD (freeOf c st) k []) group 0 (locations table m) (sections copy n) (found .3),
+          group-most r (getD (freeOf c st) k []) group 0 (locationsIn table m) (sections copy n) (found .3),
           most,
         )
 
     pub grouped-served : (c′ st′ : List ℕ) → KeptIn k (sections copy n) c st c′ st′ → Grouped (In k n) order (rectsAt r group) m table c st c′ st′
-    grouped-served c′ st′ kept = (found .0, found .1, found .2, sections copy n, found .3, kept)
+    grouped-served c′ st′ kept = (found .0, found .1, found .2, sections copy n, length-sections copy n, found .3, kept)
 
 -- ---- what was ready for all is ready for the others, once a group stands in its chamber
 

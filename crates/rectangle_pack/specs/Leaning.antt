@@ -27,7 +27,7 @@ use Rattle.packing_rules.specs.Seats.{Seat, seated}
 use Rattle.placing.specs.declared.step.Step.{Step}
 use Rattle.placing.specs.declared.step.Step.the-variants.{Whole, Stops}
 use Rattle.placing.specs.Leaning.{GroupOf, Ready}
-use Rattle.placing.specs.Step.{locations}
+use Rattle.placing.specs.Step.{locationsIn}
 use Rattle.rectangle_pack.specs.declared.groups.Fit.{Fit}
 use Rattle.rectangle_pack.specs.declared.groups.Fit.the-variants.{In, Nowhere}
 use Rattle.rectangle_pack.specs.Records.{placementsOf}
@@ -51,19 +51,19 @@ pub record Wanted (rects group copy table : List ℕ) : Type 0 where
   pub table-long : length group * 6 ≤ length table
 
 -- the chamber at k takes the group, if the step there is whole
-abbrev pub fitOf : ℕ → Step → Fit
-fitOf k (Whole n) = In k n
-fitOf k (Stops i n) = Nowhere
+abbrev pub fitFrom : ℕ → Step → Fit
+fitFrom k (Whole n) = In k n
+fitFrom k (Stops i n) = Nowhere
 
 -- the chamber at k takes all m of the group, with the copy and the locations that its step left; or all do not fit there
 abbrev pub FitHere : Fit → ℕ → List RectToInsert → List (List BinSection) → ℕ → List ℕ → List ℕ → Type 0
-FitHere (In j n) k group frees m copy table = (k ≡ j) × (trialIn group frees k ≡ whole (locations table m) (sections copy n))
+FitHere (In j n) k group frees m copy table = (k ≡ j) × (trialIn group frees k ≡ whole (locationsIn table m) (sections copy n))
 FitHere Nowhere k group frees m copy table = isWhole (trialIn group frees k) ≡ false
 
 -- the first chamber where all m of the group fit, with the copy and the locations that its step left; or none serves
 abbrev pub FirstFit : Fit → List ℕ → List RectToInsert → List (List BinSection) → ℕ → List ℕ → List ℕ → Type 0
 FirstFit (In k n) order group frees m copy table =
-    (t : ℕ) × Serves order group frees t × (getD order t 0 ≡ k) × (trialIn group frees k ≡ whole (locations table m) (sections copy n))
+    (t : ℕ) × Serves order group frees t × (getD order t 0 ≡ k) × (trialIn group frees k ≡ whole (locationsIn table m) (sections copy n))
 FirstFit Nowhere order group frees m copy table = NoneServes order group frees
 
 -- the chambers are the same, but for their counts
@@ -85,7 +85,8 @@ Grouped (In k n) order group m table c st c′ st′ =
     × Serves order group (freeOf c st) t
     × (getD order t 0 ≡ k)
     × (free : List BinSection)
-    × (trialIn group (freeOf c st) k ≡ whole (locations table m) free)
+    × (length free ≡ n)
+    × (trialIn group (freeOf c st) k ≡ whole (locationsIn table m) free)
     × KeptIn k free c st c′ st′
 Grouped Nowhere order group m table c st c′ st′ = NoneServes order group (freeOf c st) × (c′ ≡ c) × (st′ ≡ st)
 
@@ -95,7 +96,7 @@ pub record SeatsFor (group p : List ℕ) : Type 0 where
 
 -- the group has taken its seats, at the locations of the table
 pub record Seated (id : ℕ) (group table p p′ : List ℕ) : Type 0 where
-  pub seats : (ss : List Seat) → p ≡ placementsOf ss → p′ ≡ placementsOf (seated id group (locations table (length group)) ss)
+  pub seats : (ss : List Seat) → p ≡ placementsOf ss → p′ ≡ placementsOf (seated id group (locationsIn table (length group)) ss)
 
 -- ---- all groups
 

@@ -10,11 +10,11 @@ ghost use Rattle.target_bin.specs.Store.{freeOf};
 ghost use Rattle.grouped_rects_to_place.specs.Rect.{rectAt};
 ghost use Rattle.packing_rules.specs.Packing.{rectsAt};
 ghost use Rattle.placing.specs.Leaning.{Ready};
-ghost use Rattle.rectangle_pack.specs.Leaning.{fitOf, Wanted, FitHere, FirstFit, KeptIn, Grouped};
+ghost use Rattle.rectangle_pack.specs.Leaning.{fitFrom, Wanted, FitHere, FirstFit, KeptIn, Grouped};
 use placing::Step;
-use placing::copy_sections;
 use placing::has_place;
 use placing::place_in;
+use sections::copy_sections;
 use target_bin::TargetBin;
 
 // Where a group goes: into the chamber at this index, which then has so many free sections; or into none.
@@ -26,7 +26,7 @@ pub enum Fit {
 impl Fit {
     // The chamber at k takes the group, if the step there is whole.
     fn new(k: usize, step: Step) -> Fit
-        ensures { λ r. ⌜ r ≡ fitOf k step ⌝ }
+        ensures { λ r. ⌜ r ≡ fitFrom k step ⌝ }
     {
         match step {
             Step::Whole(count) => Fit::In(k, count),
@@ -35,7 +35,7 @@ impl Fit {
     }
 }
 
-// The group in the chamber at k. A chamber that has no place for the first of the group is not copied; most trials end so.
+// The group in the chamber at k. A chamber that has no place for the first of the group is not copied.
 fn fit_in(
     chambers: &[u32],
     store: &[u32],
@@ -43,22 +43,25 @@ fn fit_in(
     rects: &[u32],
     group: &[usize],
     copy: &mut [u32],
-    table: &mut [u32],
+    locations: &mut [u32],
 ) -> Fit
     requires { ⌜
         Ready (now chambers) (now store) (length (now group))
         × (k < chamberCount (now chambers))
-        × Wanted (now rects) (now group) (now copy) (now table)
+        × Wanted (now rects) (now group) (now copy) (now locations)
         ⌝ }
     ensures { λ f. ⌜
         FitHere f k (rectsAt (rectAt (now (rects .entry))) (now (group .entry))) (freeOf (now (chambers .entry)) (now (store .entry)))
-        (length (now (group .entry))) (now (copy .exit)) (now (table .exit))
+        (length (now (group .entry))) (now (copy .exit)) (now (locations .exit))
         ⌝ }
 {
     if !has_place(chambers, store, k, rects, group[0]) {
         return Fit::Nowhere;
     }
-    Fit::new(k, place_in(chambers, store, k, rects, group, copy, table))
+    Fit::new(
+        k,
+        place_in(chambers, store, k, rects, group, copy, locations),
+    )
 }
 
 // "The first chamber where all fit", in the order of the chambers. In each the copy is made anew.
@@ -69,21 +72,21 @@ fn first_fitting(
     rects: &[u32],
     group: &[usize],
     copy: &mut [u32],
-    table: &mut [u32],
+    locations: &mut [u32],
 ) -> Fit
     requires { ⌜
         Ready (now chambers) (now store) (length (now group))
         × Each (λ k. k < chamberCount (now chambers)) (now order)
-        × Wanted (now rects) (now group) (now copy) (now table)
+        × Wanted (now rects) (now group) (now copy) (now locations)
         ⌝ }
     ensures { λ f. ⌜
         FirstFit f (now (order .entry)) (rectsAt (rectAt (now (rects .entry))) (now (group .entry))) (freeOf (now (chambers .entry)) (now (store .entry)))
-        (length (now (group .entry))) (now (copy .exit)) (now (table .exit))
+        (length (now (group .entry))) (now (copy .exit)) (now (locations .exit))
         ⌝ }
 {
     let n = order.len();
     for t in 0..n {
-        let fit = fit_in(chambers, store, order[t], rects, group, copy, table);
+        let fit = fit_in(chambers, store, order[t], rects, group, copy, locations);
         let Fit::Nowhere = fit else {
             return fit;
         };
@@ -112,19 +115,19 @@ pub fn pack_group(
     rects: &[u32],
     group: &[usize],
     copy: &mut [u32],
-    table: &mut [u32],
+    locations: &mut [u32],
 ) -> Fit
     requires { ⌜
         Ready (now chambers) (now store) (length (now group))
         × Each (λ k. k < chamberCount (now chambers)) (now order)
-        × Wanted (now rects) (now group) (now copy) (now table)
+        × Wanted (now rects) (now group) (now copy) (now locations)
         ⌝ }
     ensures { λ f. ⌜
-        Grouped f (now (order .entry)) (rectsAt (rectAt (now (rects .entry))) (now (group .entry))) (length (now (group .entry))) (now (table .exit))
+        Grouped f (now (order .entry)) (rectsAt (rectAt (now (rects .entry))) (now (group .entry))) (length (now (group .entry))) (now (locations .exit))
         (now (chambers .entry)) (now (store .entry)) (now (chambers .exit)) (now (store .exit))
         ⌝ }
 {
-    let fit = first_fitting(chambers, store, order, rects, group, copy, table);
+    let fit = first_fitting(chambers, store, order, rects, group, copy, locations);
     let Fit::In(k, count) = fit else {
         return fit;
     };

@@ -28,7 +28,7 @@ use sections::clear_past;
 use target_bin::TargetBin;
 
 // The words of the locations of a group, which has at most all rectangles of the call.
-const LOCATIONS: usize = RectToPlace::MOST * BinSection::WORDS;
+const LOCATION_WORDS: usize = RectToPlace::MOST * BinSection::WORDS;
 
 // "words past each count are 0", of one chamber.
 fn clear_tail(chambers: &[u32], store: &mut [u32], k: usize)
@@ -75,7 +75,7 @@ fn pack_groups(
     let n = rects.len() / RectToPlace::WORDS;
     let mut group = [0usize; RectToPlace::MOST];
     let mut copy = [0u32; TargetBin::STORE];
-    let mut table = [0u32; LOCATIONS];
+    let mut locations = [0u32; LOCATION_WORDS];
     let groups = leads.len();
     for g in 0..groups {
         let lead = leads[g];
@@ -87,13 +87,13 @@ fn pack_groups(
             rects,
             &group[0..m],
             &mut copy,
-            &mut table,
+            &mut locations,
         );
         let Fit::In(k, _) = fit else {
             return Reply::new(Reply::NOT_ENOUGH_BIN_SPACE, lead as u32);
         };
         let bin = TargetBin::read(chambers, k);
-        seat_group(placements, bin.id, &group[0..m], &table);
+        seat_group(placements, bin.id, &group[0..m], &locations);
     }
     Reply::new(Reply::DONE, 0)
 }

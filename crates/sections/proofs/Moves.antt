@@ -1,12 +1,12 @@
--- Laws of removal, append and clearing, and what stands past the count.
+-- Laws of removal, append, copying and clearing, and what stands past the count.
 use Prim.Native.Nat.{ℕ, zero, suc, _+_, _*_, _-_, _/_, _%_, _≤_, _<_}
 use mathlib.Core.Path.{_≡_, refl, sym, ap, ap₂, _∙_}
 use mathlib.Core.List.{List, [], _∷_, _++_, append-nil}
 use native.Mathlib.Numerals.{add-one}
 use native.Mathlib.Omega.{arith}
 use native.Mathlib.Decide.{decLt}
-use lib.ListN.{length, getD, take, drop, replicate, length-drop, length-replicate, getD-replicate, take-append-drop, drop-of-length-le, List·getD-eq-default}
-use lib.Seq.{getD-drop, ext-getD}
+use lib.ListN.{length, getD, take, drop, replicate, length-take, length-drop, length-replicate, getD-replicate, take-append-drop, drop-of-length-le, List·getD-eq-default}
+use lib.Seq.{take-at, getD-drop, ext-getD}
 use Rattle.lists.specs.Tab.{put}
 use Rattle.lists.proofs.Tabs.{tab-suc, length-put, getD-put-in, getD-put-before}
 use Rattle.words.specs.Leaning.{without}
@@ -16,7 +16,7 @@ use Rattle.bin_section.specs.Section.{sectionAt, sectionWords, zeroSection}
 use Rattle.bin_section.proofs.Words.{section-layout}
 use Rattle.sections.specs.Sections.{sections, allWords}
 use Rattle.sections.specs.Leaning.{Removed, Appended, ZeroPast, Cleared}
-use Rattle.sections.proofs.Reading.{sectionAt-put-same, sectionAt-put-other, sections-ext, encoded, word-of}
+use Rattle.sections.proofs.Reading.{sectionAt-put-same, sectionAt-put-other, length-sections, sections-ext, encoded, decoded, word-of}
 
 pub removed : (w w′ : List ℕ) (count i : ℕ) → i < count → count * 6 ≤ length w → w′ ≡ without (i * 6) 6 ((count - (i + 1)) * 6) w → Removed count i w w′
 unfolding sections sectionAt
@@ -38,6 +38,14 @@ appended w count s room =
       past = λ k h. sectionAt-put-other w count s room k (λ e. omega arith);
       free = rw (add-one, tab-suc count (sectionAt w′)) (ap₂ (λ (l : List BinSection) (x : BinSection). l ++ (x ∷ [])) first (sectionAt-put-same w count s room));
     }
+
+-- the first n sections, copied to the front
+pub copied-sections : (from to to′ : List ℕ) (n k : ℕ) → n * 6 ≤ length from → to′ ≡ put to 0 (take k from) → k ≡ n * 6 → sections to′ n ≡ sections from n
+unfolding put
+copied-sections from to to′ n k room e′ all =
+    let e : to′ ≡ put to 0 (take (n * 6) from) = e′ ∙ ap (λ (j : ℕ). put to 0 (take j from)) all in
+    decoded (sections from n) to′ n (length-sections from n)
+    (ap (take (n * 6)) e ∙ take-at (take (n * 6) from) _ (n * 6) (length-take (n * 6) from ∙ omega arith) ∙ sym (encoded from n room))
 
 -- ---- what stands past the count
 

@@ -1,4 +1,4 @@
-// The sections of one list of six words each: searches, the sum of their volumes, removal, append and clearing.
+// The sections of one list of six words each: searches, the sum of their volumes, removal, append, clearing and copying.
 mod available;
 mod first;
 mod near;
@@ -6,6 +6,7 @@ mod volumes;
 
 pub use available::append_section;
 pub use available::clear_past;
+pub use available::copy_sections;
 pub use available::remove_section;
 pub use first::first_outside;
 pub use first::first_shared;

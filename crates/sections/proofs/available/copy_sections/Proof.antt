@@ -1,6 +1,6 @@
 use Rattle.lists.proofs.Kit.{_*_, _-_, now, arith, needs}
-use Rattle.placing.proofs.Copying.{copied-sections}
-use Rattle.placing.proofs.chamber.copy_sections as it
+use Rattle.sections.proofs.Moves.{copied-sections}
+use Rattle.sections.proofs.available.copy_sections as it
 
 returns : it.Tie.Need-returns
 returns c =
