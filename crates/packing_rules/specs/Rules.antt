@@ -27,8 +27,8 @@ placeFrom free r (suc n) =
 unfoldable pub placeOne : List BinSection → RectToInsert → One
 placeOne free r = placeFrom free r (length free)
 
--- the rectangles of a group, one after the other: the trial stops at one of them, which stands at this place of the group, with these
--- sections free then; or the whole group goes in, each at its location
+-- the rectangles of a group, one after the other: "at which rectangle of the group the trial stops", by its place there, with the sections "then
+-- free" (02, K6); or the whole group goes in, each at its location
 pub data Trial : Type 0 where
   stops : ℕ → List BinSection → Trial
   whole : List PackedLocation → List BinSection → Trial

@@ -16,7 +16,7 @@ pub data Seat : Type 0 where
   unplaced : Seat
   seat : ℕ → PackedLocation → Seat
 
--- the rectangles of a group, by their indices, take their seats, each at its own location
+-- the rectangles of a group take their seats, each at its own location and "at the rectangle's index", as its placement record will stand
 unfoldable pub seated : ℕ → List ℕ → List PackedLocation → List Seat → List Seat
 seated id [] ls seats = seats
 seated id (i ∷ is) [] seats = seats

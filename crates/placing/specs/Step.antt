@@ -1,4 +1,5 @@
--- What a placing step answers: the trial of the rules, read from the copy and from the table of locations that it leaves.
+-- What a placing step answers, "the new sections with the locations, or a failure" (02, K9): the trial of the rules, read from the copy and from the
+-- table of locations that it leaves.
 use Prim.Native.Nat.{ℕ}
 use mathlib.Core.List.{List, map}
 use Rattle.bin_section.specs.declared.section.BinSection.{BinSection}

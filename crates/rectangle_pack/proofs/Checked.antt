@@ -113,7 +113,6 @@ module _ (c st rects p : List ℕ) (all : AllPass (packChecks c st rects p)) whe
       record {
         ready = record { shaped = sound-before .shaped; small = small-at; inside = inside-at; room = room-at };
         rects-good = good-rects rects (rectCount rects) (l .few) (omega (arith, l .long)) no-bad;
-        rects-long = l .long;
         places-long = l .places;
       }
 

@@ -14,7 +14,7 @@ use Rattle.target_bin.specs.Leaning.{Shaped}
 use Rattle.target_bin.specs.Store.{partAt, freeOf}
 use Rattle.grouped_rects_to_place.specs.declared.rect_to_place.RectToPlace.{RectToPlace}
 use Rattle.replies.specs.declared.reply.Reply.{Reply}
-use Rattle.grouped_rects_to_place.specs.Rect.{rectWidth, rectCount}
+use Rattle.grouped_rects_to_place.specs.Rect.{rectCount}
 use Rattle.grouped_rects_to_place.specs.Leaning.{GoodRects}
 use Rattle.grouped_rects_to_place.specs.Groups.{groupsOf}
 use Rattle.placement.specs.Placements.{placementWidth}
@@ -121,7 +121,6 @@ pub record GroupsPacked (r : ℕ → RectToPlace) (n : ℕ) (answer : Reply) (c 
 pub record Passed (c st rects p : List ℕ) : Type 0 where
   pub ready : Ready c st (rectCount rects)
   pub rects-good : GoodRects rects (rectCount rects)
-  pub rects-long : length rects ≡ rectCount rects * rectWidth
   pub places-long : length p ≡ rectCount rects * placementWidth
 
 -- "words past each count are 0"
