@@ -33,16 +33,21 @@
  *    7  not enough space; the detail is the first index of the refused group
  *    8  return: no chamber has the id
  *    9  return: the box has a zero side or reaches past the chamber
- *   10  return: a free section shares a cell with the box; the detail is the section's index
+ *   10  return: a free section shares a cell with the box; the detail is the section's index, and the common box is
+ *       handed on
  *   11  return: 128 sections are there
  *   12  try: the rectangle is wider than the section
  *   13  try: it is taller
  *   14  try: it is deeper
  *   16  audit: a box has a zero side or reaches past the chamber; the detail is the box's index
- *   17  audit: a box shares a cell with an earlier one; the detail is the index of the later
+ *   17  audit: a box shares a cell with an earlier one; the detail is the index of the later, and the common box is
+ *       handed on
  *   18  audit: neither, but a cell is in no box
  *
  * The checks of a job go in the order of the numbers, each over the whole table before the next.
+ *
+ * The common box of two boxes that overlap is a box of 6 words: it has the cells that lie in both, and no other. Whoever is
+ * told that two boxes overlap finds there which space they share.
  */
 #ifndef CAFUNDERI_H
 #define CAFUNDERI_H
@@ -93,19 +98,25 @@ cafunderi_reply cafunderi_pack(uint32_t *chambers, size_t chambers_len,
                                uint32_t *placements, size_t placements_len);
 
 /* Returns a box of 6 words to the free sections of the chamber that has the id.
- * Reply 0: that chamber's count is one more, and the box stands after its last section. No other word is written.
- * Replies 1, 2, 3 and 8 to 11 write nothing. */
+ * Reply 0: that chamber's count is one more, and the box stands after its last section. No other word of the two tables is
+ * written. Replies 1, 2, 3 and 8 to 11 write nothing to them.
+ * `common`, of 6 words, gets the common box of reply 10: the space that the box shares with the free section that the detail
+ * names. At every other reply but 1 it gets six zeros. Reply 1 leaves it as it is. */
 cafunderi_reply cafunderi_return(uint32_t *chambers, size_t chambers_len,
                                  uint32_t *store, size_t store_len,
                                  uint32_t id,
-                                 const uint32_t *box, size_t box_len);
+                                 const uint32_t *box, size_t box_len,
+                                 uint32_t *common, size_t common_len);
 
 /* Audits one chamber: its sides, 3 words, and two lists of boxes of 6 words each, placed and free, at most 1,024 together.
  * Reply 0: each unit cell of the chamber lies in exactly one box. Replies 1, 2, 16, 17 and 18: see above. Indices count the
- * placed list, then the free list. Nothing is written. */
+ * placed list, then the free list. The lists are not written.
+ * `common`, of 6 words, gets the common box of reply 17: the space that the box which the detail names shares with the
+ * earliest box that it meets. At every other reply but 1 it gets six zeros. Reply 1 leaves it as it is. */
 cafunderi_reply cafunderi_audit(const uint32_t *sides, size_t sides_len,
                                 const uint32_t *placed, size_t placed_len,
-                                const uint32_t *free, size_t free_len);
+                                const uint32_t *free, size_t free_len,
+                                uint32_t *common, size_t common_len);
 
 #ifdef __cplusplus
 }

@@ -97,18 +97,32 @@ pub fn measure(name: &str, chamber: &Chamber) -> Times {
     )
 }
 
-/// Uses a reply, so that the call that gave it is not left out.
-fn keep(reply: Reply) {
-    unsafe { std::ptr::read_volatile(&reply) };
+/// Uses an answer, so that the call that gave it is not left out.
+fn keep(answer: (Reply, [u32; 6])) {
+    unsafe { std::ptr::read_volatile(&answer) };
 }
 
-/// The same checks in the same order. Boxes that lie inside end at 65,535 at most, so the later sums fit 32 bits.
+/// The common box of two boxes that share a cell.
+fn common_box(a: &Section, b: &Section) -> [u32; 6] {
+    let (x, y, z) = (a.x.max(b.x), a.y.max(b.y), a.z.max(b.z));
+    [
+        x,
+        y,
+        z,
+        (a.x + a.width).min(b.x + b.width) - x,
+        (a.y + a.height).min(b.y + b.height) - y,
+        (a.z + a.depth).min(b.z + b.depth) - z,
+    ]
+}
+
+/// The same checks in the same order, and the same common box. Boxes that lie inside end at 65,535 at most, so the later sums fit 32 bits.
 #[inline(never)]
-fn plain_audit(sides: &[u32; 3], boxes: &[Section]) -> Reply {
-    let reply = |number, detail: usize| Reply {
+fn plain_audit(sides: &[u32; 3], boxes: &[Section]) -> (Reply, [u32; 6]) {
+    let number = |number, detail: usize| Reply {
         number,
         detail: detail as u32,
     };
+    let reply = |n, detail: usize| (number(n, detail), [0; 6]);
     if BOXES < boxes.len() {
         return reply(1, 0);
     }
@@ -134,7 +148,7 @@ fn plain_audit(sides: &[u32; 3], boxes: &[Section]) -> Reply {
                 && a.z < b.z + b.depth
                 && b.z < a.z + a.depth
             {
-                return reply(17, j);
+                return (number(17, j), common_box(a, b));
             }
         }
     }

@@ -38,6 +38,8 @@ mod face {
             placed_len: usize,
             free: *const u32,
             free_len: usize,
+            common: *mut u32,
+            common_len: usize,
         ) -> Reply;
     }
 }
@@ -73,8 +75,10 @@ pub fn pack(
     }
 }
 
-pub fn audit(sides: &[u32; 3], placed: &[u32], free: &[u32]) -> Reply {
-    unsafe {
+/// The reply, and the common box that it hands on.
+pub fn audit(sides: &[u32; 3], placed: &[u32], free: &[u32]) -> (Reply, [u32; 6]) {
+    let mut common = [u32::MAX; 6];
+    let reply = unsafe {
         face::cafunderi_audit(
             sides.as_ptr(),
             sides.len(),
@@ -82,6 +86,9 @@ pub fn audit(sides: &[u32; 3], placed: &[u32], free: &[u32]) -> Reply {
             placed.len(),
             free.as_ptr(),
             free.len(),
+            common.as_mut_ptr(),
+            common.len(),
         )
-    }
+    };
+    (reply, common)
 }

@@ -81,21 +81,35 @@ int main(void)
 
     /* Both boxes are placed. The store's counted sections are the audit's free list. */
     const uint32_t boxes[2 * WORDS] = {0, 0, 0, 4, 4, 1, 4, 0, 0, 4, 4, 1};
-    expect("audit", cafunderi_audit(TABLE(sides), TABLE(boxes), store, 2 * WORDS), 0, 0);
-    expect("audit without the last free section", cafunderi_audit(TABLE(sides), TABLE(boxes), store, WORDS), 18, 0);
-    expect("audit with the free sections twice", cafunderi_audit(TABLE(sides), store, 2 * WORDS, store, 2 * WORDS), 17, 2);
+    uint32_t common[WORDS];
+    memset(common, 0xff, sizeof common);
+    expect("audit", cafunderi_audit(TABLE(sides), TABLE(boxes), store, 2 * WORDS, TABLE(common)), 0, 0);
+    expect_zeros("no common box", common, 0, WORDS);
+    expect("audit without the last free section", cafunderi_audit(TABLE(sides), TABLE(boxes), store, WORDS, TABLE(common)), 18, 0);
+
+    /* One more box, that meets both placed ones: the space that it shares with the earlier of them. */
+    const uint32_t astray[WORDS] = {3, 3, 0, 2, 2, 1};
+    expect("audit with a box astray", cafunderi_audit(TABLE(sides), TABLE(boxes), TABLE(astray), TABLE(common)), 17, 2);
+    expect_words("common box", common, (const uint32_t[]){3, 3, 0, 1, 1, 1}, WORDS);
 
     /* Box 7 comes back. */
     const uint32_t *seven = boxes + WORDS;
     const uint32_t three_free[3 * WORDS] = {0, 4, 0, 10, 6, 1, 8, 0, 0, 2, 4, 1, 4, 0, 0, 4, 4, 1};
-    expect("return 7", cafunderi_return(TABLE(chambers), TABLE(store), ID, seven, WORDS), 0, 2);
+    expect("return 7", cafunderi_return(TABLE(chambers), TABLE(store), ID, seven, WORDS, TABLE(common)), 0, 2);
+    expect_zeros("no common box", common, 0, WORDS);
     expect_words("chamber", chambers, (const uint32_t[]){ID, 10, 10, 1, 3}, CAFUNDERI_CHAMBER_WORDS);
     expect_words("free", store, TABLE(three_free));
-    expect("audit", cafunderi_audit(TABLE(sides), boxes, WORDS, store, 3 * WORDS), 0, 0);
+    expect("audit", cafunderi_audit(TABLE(sides), boxes, WORDS, store, 3 * WORDS, TABLE(common)), 0, 0);
 
-    /* Refusals write nothing. */
-    expect("return 7 again", cafunderi_return(TABLE(chambers), TABLE(store), ID, seven, WORDS), 10, 2);
-    expect("return a box of five words", cafunderi_return(TABLE(chambers), TABLE(store), ID, seven, WORDS - 1), 1, 0);
+    /* Refusals write nothing to the tables. A return that overlaps hands on the space shared, and a wrong length nothing at all. */
+    const uint32_t over[WORDS] = {3, 1, 0, 3, 2, 1};
+    const uint32_t shared[WORDS] = {4, 1, 0, 2, 2, 1};
+    expect("return a box that reaches into 7", cafunderi_return(TABLE(chambers), TABLE(store), ID, TABLE(over), TABLE(common)), 10, 2);
+    expect_words("common box", common, TABLE(shared));
+    expect("return a box of five words", cafunderi_return(TABLE(chambers), TABLE(store), ID, seven, WORDS - 1, TABLE(common)), 1, 0);
+    expect("return with five words for the common box",
+           cafunderi_return(TABLE(chambers), TABLE(store), ID, TABLE(over), common, WORDS - 1), 1, 0);
+    expect_words("common box", common, TABLE(shared));
     expect("pack with one placement record",
            cafunderi_pack(TABLE(chambers), TABLE(store), TABLE(rectangles), placements, CAFUNDERI_PLACEMENT_WORDS), 1, 0);
     expect_words("placements of 7 and 3", placements, TABLE(both_placed));
@@ -106,7 +120,7 @@ int main(void)
     /* Empty tables. */
     expect("fresh, no chambers", cafunderi_fresh(NULL, 0, NULL, 0), 0, 0);
     expect("pack, nothing at all", cafunderi_pack(NULL, 0, NULL, 0, NULL, 0, NULL, 0), 0, 0);
-    expect("audit, no boxes", cafunderi_audit(TABLE(sides), NULL, 0, NULL, 0), 18, 0);
+    expect("audit, no boxes", cafunderi_audit(TABLE(sides), NULL, 0, NULL, 0, TABLE(common)), 18, 0);
 
     puts(wrong ? "some answers are WRONG" : "all answers are as they must be");
     return wrong;

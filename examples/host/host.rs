@@ -40,6 +40,8 @@ mod cafunderi {
                 id: u32,
                 section: *const u32,
                 section_len: usize,
+                common: *mut u32,
+                common_len: usize,
             ) -> Reply;
             pub fn cafunderi_audit(
                 sides: *const u32,
@@ -48,6 +50,8 @@ mod cafunderi {
                 placed_len: usize,
                 free: *const u32,
                 free_len: usize,
+                common: *mut u32,
+                common_len: usize,
             ) -> Reply;
         }
     }
@@ -84,7 +88,13 @@ mod cafunderi {
         }
     }
 
-    pub fn return_section(chambers: &mut [u32], store: &mut [u32], id: u32, section: &[u32]) -> Reply {
+    pub fn return_section(
+        chambers: &mut [u32],
+        store: &mut [u32],
+        id: u32,
+        section: &[u32],
+        common: &mut [u32],
+    ) -> Reply {
         unsafe {
             c::cafunderi_return(
                 chambers.as_mut_ptr(),
@@ -94,13 +104,24 @@ mod cafunderi {
                 id,
                 section.as_ptr(),
                 section.len(),
+                common.as_mut_ptr(),
+                common.len(),
             )
         }
     }
 
-    pub fn audit(sides: &[u32], placed: &[u32], free: &[u32]) -> Reply {
+    pub fn audit(sides: &[u32], placed: &[u32], free: &[u32], common: &mut [u32]) -> Reply {
         unsafe {
-            c::cafunderi_audit(sides.as_ptr(), sides.len(), placed.as_ptr(), placed.len(), free.as_ptr(), free.len())
+            c::cafunderi_audit(
+                sides.as_ptr(),
+                sides.len(),
+                placed.as_ptr(),
+                placed.len(),
+                free.as_ptr(),
+                free.len(),
+                common.as_mut_ptr(),
+                common.len(),
+            )
         }
     }
 }
@@ -172,21 +193,35 @@ fn main() {
     // Both boxes are placed. The store's counted sections are the audit's free list.
     let boxes = [0, 0, 0, 4, 4, 1, 4, 0, 0, 4, 4, 1];
     let (three, seven) = boxes.split_at(6);
-    held.reply("audit", cafunderi::audit(&sides, &boxes, &store[..12]), 0, 0);
-    held.reply("audit without the last free section", cafunderi::audit(&sides, &boxes, &store[..6]), 18, 0);
-    held.reply("audit with the free sections twice", cafunderi::audit(&sides, &store[..12], &store[..12]), 17, 2);
+    let mut common = [u32::MAX; 6];
+    held.reply("audit", cafunderi::audit(&sides, &boxes, &store[..12], &mut common), 0, 0);
+    held.zeros("no common box", &common);
+    let gap = cafunderi::audit(&sides, &boxes, &store[..6], &mut common);
+    held.reply("audit without the last free section", gap, 18, 0);
+
+    // One more box, that meets both placed ones: the space that it shares with the earlier of them.
+    let astray = cafunderi::audit(&sides, &boxes, &[3, 3, 0, 2, 2, 1], &mut common);
+    held.reply("audit with a box astray", astray, 17, 2);
+    held.words("common box", &common, &[3, 3, 0, 1, 1, 1]);
 
     // Box 7 comes back.
     let three_free = [0, 4, 0, 10, 6, 1, 8, 0, 0, 2, 4, 1, 4, 0, 0, 4, 4, 1];
-    held.reply("return 7", cafunderi::return_section(&mut chambers, &mut store, ID, seven), 0, 2);
+    held.reply("return 7", cafunderi::return_section(&mut chambers, &mut store, ID, seven, &mut common), 0, 2);
+    held.zeros("no common box", &common);
     held.words("chamber", &chambers, &[ID, 10, 10, 1, 3]);
     held.words("free", &store[..18], &three_free);
-    held.reply("audit", cafunderi::audit(&sides, three, &store[..18]), 0, 0);
+    held.reply("audit", cafunderi::audit(&sides, three, &store[..18], &mut common), 0, 0);
 
-    // Refusals write nothing.
-    held.reply("return 7 again", cafunderi::return_section(&mut chambers, &mut store, ID, seven), 10, 2);
-    let short = cafunderi::return_section(&mut chambers, &mut store, ID, &seven[..5]);
+    // Refusals write nothing to the tables. A return that overlaps hands on the space shared, and a wrong length nothing at all.
+    let over = [3, 1, 0, 3, 2, 1];
+    let overlaps = cafunderi::return_section(&mut chambers, &mut store, ID, &over, &mut common);
+    held.reply("return a box that reaches into 7", overlaps, 10, 2);
+    held.words("common box", &common, &[4, 1, 0, 2, 2, 1]);
+    let short = cafunderi::return_section(&mut chambers, &mut store, ID, &seven[..5], &mut common);
     held.reply("return a box of five words", short, 1, 0);
+    let narrow = cafunderi::return_section(&mut chambers, &mut store, ID, &over, &mut common[..5]);
+    held.reply("return with five words for the common box", narrow, 1, 0);
+    held.words("common box", &common, &[4, 1, 0, 2, 2, 1]);
     let few = cafunderi::pack(&mut chambers, &mut store, &rectangles, &mut placements[..5]);
     held.reply("pack with one placement record", few, 1, 0);
     held.words("placements of 7 and 3", &placements, &both_placed);
@@ -197,7 +232,7 @@ fn main() {
     // Empty tables.
     held.reply("fresh, no chambers", cafunderi::fresh(&mut [], &mut []), 0, 0);
     held.reply("pack, nothing at all", cafunderi::pack(&mut [], &mut [], &[], &mut []), 0, 0);
-    held.reply("audit, no boxes", cafunderi::audit(&sides, &[], &[]), 18, 0);
+    held.reply("audit, no boxes", cafunderi::audit(&sides, &[], &[], &mut common), 18, 0);
 
     println!("{}", if held.wrong { "some answers are WRONG" } else { "all answers are as they must be" });
     std::process::exit(held.wrong as i32);

@@ -77,19 +77,40 @@ fn answer_return(chambers: &[Chamber], id: u32, part: &Section) -> Vec<u32> {
     let mut bins = bins(chambers);
     let bin = bins.get_mut(&id).expect("the chamber is listed");
     let before = free(bin);
-    let (reply, detail) = match bin.push_available_bin_section(bin_section(part)) {
-        Ok(()) => (0, before.len()),
+    let (reply, detail, common) = match bin.push_available_bin_section(bin_section(part)) {
+        Ok(()) => (0, before.len(), None),
         Err(error) => match Text::whole(&format!("{error:?}"), Text::refused_return) {
-            None => (9, 0),
+            None => (9, 0, None),
             Some(remaining) => {
                 let index = before.iter().position(|section| *section == remaining);
-                (10, index.expect("the crate names one of the free sections"))
+                let index = index.expect("the crate names one of the free sections");
+                (10, index, Some(common_box(&remaining, part)))
             }
         },
     };
     let mut words = vec![reply, detail as u32];
+    match common {
+        None => words.extend([0; 6]),
+        Some(common) => common.put(&mut words),
+    }
     put_tables(&bins, &mut words);
     words
+}
+
+/// The space that two boxes share. The crate's error has the two boxes and leaves it to the caller.
+fn common_box(a: &Section, b: &Section) -> Section {
+    let mut common = Section {
+        at: [0; 3],
+        sides: [0; 3],
+    };
+    for axis in 0..3 {
+        // both boxes lie inside their chamber, so an end is a word
+        let start = a.at[axis].max(b.at[axis]);
+        let end = (a.at[axis] + a.sides[axis]).min(b.at[axis] + b.sides[axis]);
+        common.at[axis] = start;
+        common.sides[axis] = end - start;
+    }
+    common
 }
 
 fn answer_pack(chambers: &[Chamber], rectangles: &[Rectangle]) -> Vec<u32> {

@@ -65,7 +65,10 @@ fn formed_answer(job: &Job, words: &[u32]) -> Result<Vec<String>, String> {
                 lines.push(format!("  {name} {}", of_box(&rest.section()?)));
             }
         }
-        Job::Return { chambers, .. } => put_tables(chambers, rest, &mut lines)?,
+        Job::Return { chambers, .. } => {
+            lines.push(format!("  common {}", of_box(&rest.section()?)));
+            put_tables(chambers, rest, &mut lines)?;
+        }
         Job::Pack {
             chambers,
             rectangles,

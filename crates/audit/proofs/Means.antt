@@ -8,10 +8,12 @@ use native.Mathlib.Decide.{decLt}
 use native.Mathlib.Omega.{arith}
 use borrow.Author.Tests.{eqb-true, eqb-false, eq-eqb, ne-eqb}
 use lib.Dec.{eqb}
-use lib.ListN.{length}
+use lib.ListN.{length, take}
+use Rattle.lists.proofs.Flags.{cond-no}
 use Rattle.lists.proofs.Lowests.{lowest-none, lowest-here, lowest-fires, none-below-lowest, none-of-lowest}
 use Rattle.bin_section.specs.declared.width_height_depth.WidthHeightDepth.{WidthHeightDepth}
 use Rattle.bin_section.specs.declared.section.BinSection.{BinSection}
+use Rattle.bin_section.specs.declared.overlaps.Common.the-variants as overlap
 use Rattle.replies.specs.declared.reply.Reply.{Reply}
 use Rattle.bin_section.specs.Sides.{volumeOf, sidesOk}
 use Rattle.bin_section.specs.Section.{sectionWords}
@@ -21,7 +23,9 @@ use Rattle.bin_section.proofs.Bounding.{not-outside→inside, inside→not-outs
 use Rattle.cells.specs.Whole.{boxAt, AllInside, Apart, Whole, volumes}
 use Rattle.cells.proofs.Counting.{volumes-fit, sum→whole, less→gap, whole-filled, whole-no-gap}
 use Rattle.sections.specs.Inside.{sharesEarlier}
-use Rattle.audit.specs.Audit.{auditBoxes, boxListsOk, auditReply, shownOf, auditOf}
+use Rattle.sections.specs.Common.{EarliestSpace}
+use Rattle.sections.proofs.Searching.{earlier-space}
+use Rattle.audit.specs.Audit.{auditBoxes, boxListsOk, auditReply, auditCommon, auditAnswer, shownOf, auditOf}
 use Rattle.audit.specs.Meaning.{Given, FirstOutside, FirstShared, CellInNoBox, AuditMeans}
 use Rattle.audit.proofs.Tests.{none-inside, inside-none, not-shares→apart, apart→not-shares, shares→some, some→shares}
 use Rattle.audit.proofs.TwoLists.{words-box}
@@ -186,14 +190,31 @@ module _ (whd : WidthHeightDepth) (boxes : List BinSection) (r : Reply) where
   one-of (found-gap e p) = inr (inr (inr e))
   one-of (found-whole e w) = inl e
 
+-- ---- what is handed on
+
+module _ (whd : WidthHeightDepth) (placed free : List ℕ) (a : boxListsOk (length placed) (length free) ≡ true) (b : sidesOk whd ≡ true) where
+  with-shared : (j : ℕ) → auditReply whd placed free ≡ reply 17 j → (i : ℕ) × EarliestSpace (take j (auditBoxes placed free)) (boxAt (auditBoxes placed free) j) i (auditOf whd placed free .common)
+  unfolding auditOf auditAnswer auditCommon r
+  with-shared j e =
+      let boxes = auditBoxes placed free in
+      let p = to-shared whd boxes (auditReply whd placed free) j (found whd placed free a b) e in
+      rw e
+      (earlier-space boxes j (omega (arith, p .below)) (some→shares boxes j (p .earlier) (p .less) (p .shares)))
+
+  without : ((j : ℕ) → ¬ (auditReply whd placed free ≡ reply 17 j)) → auditOf whd placed free .common ≡ overlap.Apart
+  unfolding auditOf auditAnswer auditCommon
+  without n =
+      cond-no _ _ (eqb (auditReply whd placed free .number) 17)
+      (ne-eqb _ _ (λ e. n (auditReply whd placed free .detail) (ap (λ (k : ℕ). reply k (auditReply whd placed free .detail)) e)))
+
 -- ---- the theorem
 
 pub audit-means :
     (whd : WidthHeightDepth) (placed free : List ℕ)
     → boxListsOk (length placed) (length free) ≡ true
     → sidesOk whd ≡ true
-    → AuditMeans whd (auditBoxes placed free) (auditOf whd placed free .reply)
-unfolding auditOf r
+    → AuditMeans whd (auditBoxes placed free) (auditOf whd placed free .reply) (auditOf whd placed free .common)
+unfolding auditOf auditAnswer r
 audit-means whd placed free a b =
     let boxes = auditBoxes placed free in
     let answer = auditReply whd placed free in
@@ -204,6 +225,8 @@ audit-means whd placed free a b =
       outside = λ i. (to-outside whd boxes answer i f, from-outside whd placed free a b i);
       shared = λ j. (to-shared whd boxes answer j f, from-shared whd placed free a b j);
       missing = (to-gap whd boxes answer f, from-gap whd placed free a b);
+      space = with-shared whd placed free a b;
+      no-space = without whd placed free a b;
     }
 
 -- with 16 or 17 the words shown are those of the box that the detail names
@@ -212,7 +235,7 @@ pub audit-shows :
     → auditOf whd placed free .reply ≡ reply n i
     → (n ≡ 16) ⊎ (n ≡ 17)
     → auditOf whd placed free .shown ≡ sectionWords (boxAt (auditBoxes placed free) i)
-unfolding auditOf shownOf
+unfolding auditOf auditAnswer shownOf
 audit-shows whd placed free n i e which =
     let named = names which in
     let p = named-box whd placed free (reply n i) (sym e) named in

@@ -1,25 +1,28 @@
 -- Which reply each row of checks leads to, and what a reply that names a box says of its index.
 use Prim.Native.Nat.{ℕ, _+_, _*_, _/_, _%_, _≤_, _<_}
 use mathlib.Core.Path.{_≡_, refl, sym, ap, _∙_, subst}
-use mathlib.Core.Logic.{_⊎_, inl, inr}
 use mathlib.Core.List.{List, [], _++_}
-use mathlib.Core.Bool.{Bool, true, false, not, _&&_, _||_, cond}
+use mathlib.Core.Bool.{Bool, true, false, not, _&&_, _||_}
 use native.Mathlib.Omega.{arith}
-use borrow.Author.Tests.{lt-ltb, le-ltb, ltb-true, leb-true, eqb-true, not-false}
+use borrow.Author.Tests.{lt-ltb, le-ltb, ltb-true, leb-true, eqb-true, eq-eqb, ne-eqb, not-false}
 use lib.Dec.{eqb, ltb, leb}
 use lib.ListN.{length, take, drop}
 use Rattle.lists.specs.Lowest.{lowest}
 use Rattle.lists.proofs.Flags.{true-false, and-first, and-second}
 use Rattle.bin_section.specs.declared.width_height_depth.WidthHeightDepth.{WidthHeightDepth}
 use Rattle.bin_section.specs.declared.section.BinSection.{BinSection}
+use Rattle.bin_section.specs.declared.overlaps.Common.{Common}
+use Rattle.bin_section.specs.Overlap.{commonWords}
 use Rattle.replies.specs.declared.reply.Reply.{Reply}
+use Rattle.sections.specs.declared.common_reply.CommonReply.{CommonReply}
 use Rattle.bin_section.specs.Sides.{volumeOf, sidesOk}
 use Rattle.replies.specs.Replies.{reply, inOrder}
+use Rattle.sections.specs.Common.{commonReply, plainReply, earliestCommon}
 use Rattle.replies.proofs.Ladders.{fires, passes, past, past-all, of-each}
 use Rattle.bin_section.specs.Inside.{outside}
 use Rattle.cells.specs.Whole.{boxAt, volumes}
 use Rattle.sections.specs.Inside.{sharesEarlier}
-use Rattle.audit.specs.Audit.{auditBoxes, boxListsOk, auditChecks, auditReply, shownOf, audited, auditOf}
+use Rattle.audit.specs.Audit.{auditBoxes, boxListsOk, auditChecks, auditReply, auditCommon, auditAnswer, shownOf, auditOf}
 use Rattle.audit.proofs.TwoLists.{boxes-length}
 
 -- what lengths that pass check 1 have
@@ -102,10 +105,37 @@ module _ (whd : WidthHeightDepth) (placed free : List ℕ) (r : Reply) (e : r �
           → (length placed % 6 ≡ 0) × (i < length placed / 6 + length free / 6)
       at a {i} l = (box-lengths (length placed) (length free) (not-false _ a) .placed-whole, omega (arith, ltb-true i _ l, boxes-length placed free))
 
-  pub audit-named : (words : List ℕ) → namesBox r ≡ true → words ≡ take 6 (drop (r .detail * 6) (placed ++ free)) → audited r words ≡ auditOf whd placed free
-  unfolding auditOf shownOf
-  audit-named words h w = rw (← e, h, w)
+  pub shared-box : r .number ≡ 17 → r .detail < length placed / 6 + length free / 6
+  shared-box h = named-box (rw h refl) .1
 
-  pub audit-silent : namesBox r ≡ false → audited r [] ≡ auditOf whd placed free
+  -- the reply with its common box
+  pub answer-plain : (a : CommonReply) → (r .number ≡ 17 → ⊥) → a ≡ plainReply r → a ≡ auditAnswer whd placed free
+  unfolding auditAnswer auditCommon
+  answer-plain a ne p = rw (p, ← e, ne-eqb (r .number) 17 ne)
+
+  pub answer-common : (a : CommonReply) → r .number ≡ 17 → (c : Common) → c ≡ earliestCommon (auditBoxes placed free) (r .detail) → a ≡ commonReply r c → a ≡ auditAnswer whd placed free
+  unfolding auditAnswer auditCommon
+  answer-common a h c f p = rw (p, f, ← e, eq-eqb (r .number) 17 h)
+
+-- ---- the parts of an audit
+
+module _ (whd : WidthHeightDepth) (placed free : List ℕ) (a : CommonReply) (e : a ≡ auditAnswer whd placed free) where
+  pub audit-replied : a .reply ≡ auditReply whd placed free
+  unfolding auditAnswer
+  audit-replied = ap (λ (q : CommonReply). q .reply) e
+
+  pub audit-reply-of : a .reply ≡ auditOf whd placed free .reply
+  unfolding auditOf
+  audit-reply-of = ap (λ (q : CommonReply). q .reply) e
+
+  pub audit-common-of : (w : List ℕ) (c : Common) → c ≡ a .common → w ≡ commonWords c → w ≡ commonWords (auditOf whd placed free .common)
+  unfolding auditOf
+  audit-common-of w c h k = k ∙ ap (λ (x : Common). commonWords x) (h ∙ ap (λ (q : CommonReply). q .common) e)
+
+  pub audit-named : (words : List ℕ) → namesBox (a .reply) ≡ true → words ≡ take 6 (drop (a .reply .detail * 6) (placed ++ free)) → words ≡ auditOf whd placed free .shown
   unfolding auditOf shownOf
-  audit-silent h = rw (← e, h)
+  audit-named words h w = rw (← audit-replied, h, w)
+
+  pub audit-silent : namesBox (a .reply) ≡ false → [] ≡ auditOf whd placed free .shown
+  unfolding auditOf shownOf
+  audit-silent h = rw (← audit-replied, h)

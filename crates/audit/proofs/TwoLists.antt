@@ -8,21 +8,24 @@ use native.Mathlib.Omega.{arith}
 use borrow.Author.Tests.{lt-ltb, le-ltb}
 use lib.Dec.{ltb}
 use lib.ListN.{length, getD, take, drop, length-append, List·getD-append, length-drop}
-use lib.Seq.{getD-append-add, take-append-le, drop-append-le, drop-append-add}
+use lib.Seq.{ext-getD, length-take-le, getD-take, getD-append-add, take-append-le, drop-append-le, drop-append-add}
 use Rattle.lists.specs.Lowest.{lowest, anyBelow}
 use Rattle.lists.proofs.Lowests.{lowest-first, lowest-second, any-same, any-parts, any-lowest}
 use Rattle.bin_section.specs.declared.width_height_depth.WidthHeightDepth.{WidthHeightDepth}
 use Rattle.bin_section.specs.declared.section.BinSection.{BinSection}
+use Rattle.bin_section.specs.declared.overlaps.Common.{Common}
+use Rattle.bin_section.specs.declared.overlaps.Common.the-variants.{Shared, Apart}
 use Rattle.bin_section.specs.Leaning.{Small}
 use Rattle.bin_section.specs.Section.{sectionAt, zeroSection, sectionWords}
 use Rattle.bin_section.specs.Overlap.{overlapsOf}
 use Rattle.cells.specs.Whole.{boxAt, Inside, AllInside, volumes}
 use Rattle.sections.specs.Sections.{sections}
 use Rattle.sections.specs.Inside.{sharesAt, sharesEarlier}
+use Rattle.sections.specs.Common.{firstCommon, earliestCommon}
 use Rattle.sections.specs.Leaning.{AllSmall}
-use Rattle.sections.proofs.Reading.{length-sections, getD-sections}
+use Rattle.sections.proofs.Reading.{length-sections, getD-sections, take-sections}
 use Rattle.bin_section.proofs.Words.{section-layout}
-use Rattle.sections.proofs.Searching.{volumes-append}
+use Rattle.sections.proofs.Searching.{first-before, first-behind, volumes-append}
 use Rattle.audit.specs.Audit.{boxesOf, auditBoxes}
 
 -- how many words a part from n to n + 6 has
@@ -139,6 +142,58 @@ module _ (placed free : List ℕ) where
 
       pub shares-free : first ≤ r → (s : ℕ) → s ≡ lowest k (sharesAt b free) → ltb s k ≡ sharesEarlier boxes (length placed / 6 + k)
       shares-free h s e = sym (two-parts ∙ rw (le-ltb r first h, any-lowest k (sharesAt b free), e) refl)
+
+  -- ---- the boxes before an index, and the common box with the earliest of them
+
+  before-placed : (j : ℕ) → j ≤ length placed / 6 → take j boxes ≡ sections placed j
+  unfolding auditBoxes
+  before-placed j h =
+      take-append-le j (boxesOf placed) (boxesOf free) (omega (arith, length-sections placed (length placed / 6)))
+      ∙ take-sections placed (length placed / 6) j h
+
+  before-free : (k : ℕ) → k ≤ length free / 6 → take (length placed / 6 + k) boxes ≡ boxesOf placed ++ sections free k
+  before-free k h =
+      let m = length placed / 6 in
+      let long = length-take-le (m + k) boxes (omega (arith, boxes-length)) in
+      let both : length (boxesOf placed ++ sections free k) ≡ m + k = simp (length-append, length-sections) in
+      ext-getD zeroSection (take (m + k) boxes) (boxesOf placed ++ sections free k) (long ∙ sym both)
+      (λ i l. getD-take (m + k) boxes i zeroSection (omega arith) ∙ at i (omega arith) (decLt i m))
+    where
+      at : (i : ℕ) → i < length placed / 6 + k → Dec (i < length placed / 6) → boxAt boxes i ≡ getD (boxesOf placed ++ sections free k) i zeroSection
+      at i l (yes b) =
+          box-placed i b
+          ∙ sym (List·getD-append (boxesOf placed) (sections free k) zeroSection i (omega (arith, length-sections placed (length placed / 6)))
+          ∙ getD-sections placed (length placed / 6) i zeroSection b)
+      at i l (no b) =
+          let e : length placed / 6 + (i - length placed / 6) ≡ i = omega arith in
+          ap (λ (n : ℕ). boxAt boxes n) (sym e)
+          ∙ box-free (i - length placed / 6) (omega arith)
+          ∙ sym (ap (λ (n : ℕ). getD (boxesOf placed ++ sections free k) n zeroSection) (sym e)
+          ∙ subst (λ (n : ℕ). getD (boxesOf placed ++ sections free k) (n + (i - length placed / 6)) zeroSection ≡ getD (sections free k) (i - length placed / 6) zeroSection)
+          (length-sections placed (length placed / 6)) (getD-append-add (boxesOf placed) (sections free k) (i - length placed / 6) zeroSection)
+          ∙ getD-sections free k (i - length placed / 6) zeroSection (omega arith))
+
+  module _ (first : ℕ) (counted : first ≡ length placed / 6) (j : ℕ) (s : BinSection) where
+    -- of a placed box
+    pub earliest-placed : j < first → s ≡ sectionAt placed j → (c : Common) → c ≡ firstCommon s (sections placed j) → c ≡ earliestCommon boxes j
+    unfolding earliestCommon
+    earliest-placed h read c e = e ∙ sym (ap₂ firstCommon (box-placed j (omega arith) ∙ sym read) (before-placed j (omega arith)))
+
+    -- of a free one
+    module _ (h : first ≤ j) (below : j < length placed / 6 + length free / 6) (read : s ≡ sectionAt free (j - first)) where
+      in-both : earliestCommon boxes j ≡ firstCommon s (sections placed first ++ sections free (j - first))
+      unfolding earliestCommon
+      in-both =
+          let e : j ≡ length placed / 6 + (j - first) = omega arith in
+          ap₂ firstCommon
+          (ap (λ (n : ℕ). boxAt boxes n) e ∙ box-free (j - first) (omega arith) ∙ sym read)
+          (ap (λ (n : ℕ). take n boxes) e ∙ before-free (j - first) (omega arith) ∙ ap (λ (n : ℕ). sections placed n ++ sections free (j - first)) (sym counted))
+
+      pub earliest-before : (c : Common) (b : BinSection) → c ≡ firstCommon s (sections placed first) → c ≡ Shared b → c ≡ earliestCommon boxes j
+      earliest-before c b e told = told ∙ sym (in-both ∙ first-before s (sections placed first) (sections free (j - first)) b (sym e ∙ told))
+
+      pub earliest-behind : (c d : Common) → c ≡ firstCommon s (sections placed first) → c ≡ Apart → d ≡ firstCommon s (sections free (j - first)) → d ≡ earliestCommon boxes j
+      earliest-behind c d e told f = f ∙ sym (in-both ∙ first-behind s (sections placed first) (sections free (j - first)) (sym e ∙ told))
 
   -- ---- the volumes of boxes that lie inside
 

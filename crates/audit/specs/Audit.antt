@@ -1,4 +1,4 @@
--- The audit of one chamber: its checks in their order, its reply, and the words that it shows.
+-- The audit of one chamber: its checks in their order, its reply, the common box that it hands on, and the words that it shows.
 use Prim.Native.Nat.{ℕ, _+_, _*_, _/_, _%_}
 use mathlib.Core.List.{List, [], _∷_, _++_}
 use mathlib.Core.Bool.{Bool, not, _&&_, _||_, cond}
@@ -6,10 +6,14 @@ use lib.Dec.{eqb, leb}
 use lib.ListN.{length, take, drop}
 use Rattle.bin_section.specs.declared.width_height_depth.WidthHeightDepth.{WidthHeightDepth}
 use Rattle.bin_section.specs.declared.section.BinSection.{BinSection}
+use Rattle.bin_section.specs.declared.overlaps.Common.{Common}
+use Rattle.bin_section.specs.declared.overlaps.Common.the-variants.{Apart}
 use Rattle.replies.specs.declared.reply.Reply.{Reply}
+use Rattle.sections.specs.declared.common_reply.CommonReply.{CommonReply}
 use Rattle.bin_section.specs.Sides.{volumeOf, sidesOk}
 use Rattle.bin_section.specs.Inside.{outside}
 use Rattle.replies.specs.Replies.{reply, Check, once, each, inOrder}
+use Rattle.sections.specs.Common.{commonReply, plainReply, earliestCommon}
 use Rattle.cells.specs.Whole.{boxAt, volumes}
 use Rattle.sections.specs.Sections.{sections}
 use Rattle.sections.specs.Inside.{sharesEarlier}
@@ -46,13 +50,28 @@ unfoldable pub shownOf : List ℕ → List ℕ → Reply → List ℕ
 shownOf placed free r =
     cond (eqb (r .number) 16 || eqb (r .number) 17) (take 6 (drop (r .detail * 6) (placed ++ free))) []
 
+-- "audit with 17 .. hand it on beside the detail, .. for the earliest box that the named one meets"; otherwise none
+unfoldable pub auditCommon : List BinSection → Reply → Common
+auditCommon boxes r = cond (eqb (r .number) 17) (earliestCommon boxes (r .detail)) Apart
+
+-- the reply with the common box
+unfoldable pub auditAnswer : WidthHeightDepth → List ℕ → List ℕ → CommonReply
+auditAnswer whd placed free =
+    let r = auditReply whd placed free in
+    commonReply r (auditCommon (auditBoxes placed free) r)
+
 pub record Audited : Type 0 where
   pub reply : Reply
+  pub common : Common
   pub shown : List ℕ
 
-abbrev pub audited : Reply → List ℕ → Audited
-audited answer shown = record { reply = answer; shown = shown }
+abbrev pub auditedWith : CommonReply → List ℕ → Audited
+auditedWith answer shown = record { reply = answer .reply; common = answer .common; shown = shown }
 
--- what the audit answers and shows, on every input
+-- with no common box
+abbrev pub audited : Reply → List ℕ → Audited
+audited answer shown = auditedWith (plainReply answer) shown
+
+-- what the audit answers, hands on and shows, on every input
 unfoldable pub auditOf : WidthHeightDepth → List ℕ → List ℕ → Audited
-auditOf whd placed free = audited (auditReply whd placed free) (shownOf placed free (auditReply whd placed free))
+auditOf whd placed free = auditedWith (auditAnswer whd placed free) (shownOf placed free (auditReply whd placed free))

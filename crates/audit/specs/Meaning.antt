@@ -3,11 +3,14 @@ use Prim.Native.Nat.{ℕ, _<_}
 use mathlib.Core.Path.{_≡_}
 use mathlib.Core.Logic.{_⊎_, _↔_}
 use mathlib.Core.List.{List}
-use lib.ListN.{length}
+use lib.ListN.{length, take}
 use Rattle.bin_section.specs.declared.width_height_depth.WidthHeightDepth.{WidthHeightDepth}
 use Rattle.bin_section.specs.declared.section.BinSection.{BinSection}
 use Rattle.replies.specs.declared.reply.Reply.{Reply}
+use Rattle.bin_section.specs.declared.overlaps.Common.{Common}
+use Rattle.bin_section.specs.declared.overlaps.Common.the-variants as overlap
 use Rattle.bin_section.specs.Cell.{SharesCell}
+use Rattle.sections.specs.Common.{EarliestSpace}
 use Rattle.replies.specs.Replies.{reply}
 use Rattle.cells.specs.Whole.{boxAt, Inside, AllInside, Apart, Whole, Gap}
 
@@ -36,10 +39,14 @@ pub record CellInNoBox (whd : WidthHeightDepth) (boxes : List BinSection) : Type
 abbrev pub Given : Reply → Type 0
 Given r = (r ≡ reply 0 0) ⊎ (((i : ℕ) × (r ≡ reply 16 i)) ⊎ (((j : ℕ) × (r ≡ reply 17 j)) ⊎ (r ≡ reply 18 0)))
 
--- and each of them "exactly when" what stands beside it holds
-pub record AuditMeans (whd : WidthHeightDepth) (boxes : List BinSection) (r : Reply) : Type 0 where
+-- and each of them "exactly when" what stands beside it holds; a common box is handed on with 17 alone
+pub record AuditMeans (whd : WidthHeightDepth) (boxes : List BinSection) (r : Reply) (common : Common) : Type 0 where
   pub given : Given r
   pub whole : (r ≡ reply 0 0) ↔ Whole whd boxes
   pub outside : (i : ℕ) → (r ≡ reply 16 i) ↔ FirstOutside whd boxes i
   pub shared : (j : ℕ) → (r ≡ reply 17 j) ↔ FirstShared whd boxes j
   pub missing : (r ≡ reply 18 0) ↔ CellInNoBox whd boxes
+  -- "for the earliest box that the named one meets": it is one of those before the named one
+  pub space : (j : ℕ) → r ≡ reply 17 j → (i : ℕ) × EarliestSpace (take j boxes) (boxAt boxes j) i common
+  -- "or none"
+  pub no-space : ((j : ℕ) → ¬ (r ≡ reply 17 j)) → common ≡ overlap.Apart

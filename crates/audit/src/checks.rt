@@ -1,4 +1,4 @@
-// What the replies 16, 17 and 18 test of the boxes: indices run through the placed list, then the free list.
+// What the replies 16, 17 and 18 test of the boxes, and the space that 17 hands on: indices run through the placed list, then the free list.
 ghost use mathlib.Core.Path.{_≡_};
 ghost use Prim.Native.Nat.{_+_, _/_, _≤_, _<_};
 ghost use lib.Dec.{eqb};
@@ -9,9 +9,12 @@ ghost use Rattle.bin_section.specs.Leaning.{Small};
 ghost use Rattle.bin_section.specs.Inside.{outside};
 ghost use Rattle.cells.specs.Whole.{boxAt, AllInside, volumes};
 ghost use Rattle.sections.specs.Inside.{sharesEarlier};
+ghost use Rattle.sections.specs.Common.{earliestCommon};
 ghost use Rattle.audit.specs.Audit.{auditBoxes};
 use bin_section::BinSection;
+use bin_section::Common;
 use bin_section::WidthHeightDepth;
+use sections::first_common;
 use sections::first_sharing;
 use sections::sum_of_volumes;
 
@@ -77,6 +80,24 @@ pub fn first_shared(placed: &[u32], free: &[u32]) -> usize
         return shared;
     }
     first + first_free_shared(placed, free)
+}
+
+// The common box of box j and the earliest box that it meets. Those before it are looked through, the placed list first.
+pub fn earliest_common(placed: &[u32], free: &[u32], j: usize) -> Common
+    requires { ⌜ j < length (now placed) / 6 + length (now free) / 6 ⌝ }
+    ensures { λ r. ⌜ r ≡ earliestCommon (auditBoxes (now (placed .entry)) (now (free .entry))) j ⌝ }
+{
+    let first = boxes_in(placed);
+    if j < first {
+        return first_common(placed, j, BinSection::read(placed, j));
+    }
+    let k = j - first;
+    let section = BinSection::read(free, k);
+    let common = first_common(placed, first, section);
+    let Common::Apart = common else {
+        return common;
+    };
+    first_common(free, k, section)
 }
 
 // Whether the volumes of boxes that lie inside sum to the chamber's. The sum of 1,024 of them fits 64 bits.

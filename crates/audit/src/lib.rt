@@ -4,8 +4,9 @@ ghost use Prim.Native.Nat.{_+_, _*_, _/_, _%_, _<_};
 ghost use lib.ListN.{length, take, drop};
 ghost use mathlib.Core.List.{_++_};
 ghost use denote.Ref.{ptr};
+ghost use Rattle.bin_section.specs.Overlap.{commonWords};
 ghost use Rattle.replies.specs.Replies.{reply};
-ghost use Rattle.audit.specs.Audit.{boxListsOk, auditReply, audited, auditOf};
+ghost use Rattle.audit.specs.Audit.{boxListsOk, auditReply, auditAnswer, auditOf};
 ghost use Rattle.audit.specs.Place.{LiesAt, ShownAt};
 
 mod checks;
@@ -14,10 +15,12 @@ use bin_section::BinSection;
 use bin_section::WidthHeightDepth;
 use checks::boxes_in;
 use checks::boxes_in_both;
+use checks::earliest_common;
 use checks::fills;
 use checks::first_outside;
 use checks::first_shared;
 use replies::Reply;
+use sections::CommonReply;
 
 // The audit's limit.
 pub struct ChamberAudit {}
@@ -60,6 +63,17 @@ pub fn audit_reply(whd: WidthHeightDepth, placed: &[u32], free: &[u32]) -> Reply
     Reply::new(Reply::DONE, 0)
 }
 
+// The reply, and with 17 the common box of the box that the detail names and the earliest box that it meets.
+pub fn audit_answer(whd: WidthHeightDepth, placed: &[u32], free: &[u32]) -> CommonReply
+    ensures { λ r. ⌜ r ≡ auditAnswer whd (now (placed .entry)) (now (free .entry)) ⌝ }
+{
+    let reply = audit_reply(whd, placed, free);
+    if reply.number != Reply::SHARED {
+        return CommonReply::plain(reply);
+    }
+    CommonReply::new(reply, earliest_common(placed, free, reply.detail as usize))
+}
+
 // The six words of box i where they lie: in the placed list, or past its boxes in the free list.
 fn words_of_box<'a>(placed: &'a [u32], free: &'a [u32], i: usize) -> &'a [u32]
     requires { ⌜ (length (now placed) % 6 ≡ 0) × (i < length (now placed) / 6 + length (now free) / 6) ⌝ }
@@ -76,22 +90,28 @@ fn words_of_box<'a>(placed: &'a [u32], free: &'a [u32], i: usize) -> &'a [u32]
     &free[at..end]
 }
 
-// Audit a chamber. The reply goes through number and detail; the part that is returned shows the faulty box of replies 16 and 17. Who needs
-// the reply alone calls audit_reply.
+// Audit a chamber. The reply goes through number and detail, the common box that 17 hands on through six words, which are zeros where there
+// is none; the part that is returned shows the faulty box of replies 16 and 17. Who needs the reply alone calls audit_reply, and who needs
+// no part audit_answer.
 pub fn audit<'a>(
     whd: WidthHeightDepth,
     placed: &'a [u32],
     free: &'a [u32],
     number: &mut u32,
     detail: &mut u32,
+    common: &mut [u32; BinSection::WORDS],
 ) -> &'a [u32]
-    ensures { λ r. ⌜ (audited (reply (now (number .exit)) (now (detail .exit))) (now r) ≡ auditOf whd (now (placed .entry)) (now (free .entry))) × ShownAt (length (now (placed .entry)) / 6) (ptr (placed .entry)) (ptr (free .entry)) (reply (now (number .exit)) (now (detail .exit))) (ptr r) ⌝ }
+    ensures { λ _. ⌜ (reply (now (number .exit)) (now (detail .exit)) ≡ auditOf whd (now (placed .entry)) (now (free .entry)) .reply) × (now (common .exit) ≡ commonWords (auditOf whd (now (placed .entry)) (now (free .entry)) .common)) ⌝ }
+    ensures { λ r. ⌜ (now r ≡ auditOf whd (now (placed .entry)) (now (free .entry)) .shown) × ShownAt (length (now (placed .entry)) / 6) (ptr (placed .entry)) (ptr (free .entry)) (reply (now (number .exit)) (now (detail .exit))) (ptr r) ⌝ }
 {
-    let answer = audit_reply(whd, placed, free);
-    *number = answer.number;
-    *detail = answer.detail;
-    if (answer.number == Reply::OUTSIDE) | (answer.number == Reply::SHARED) {
-        return words_of_box(placed, free, answer.detail as usize);
+    let answer = audit_answer(whd, placed, free);
+    let space = answer.common;
+    space.write(common);
+    let reply = answer.reply;
+    *number = reply.number;
+    *detail = reply.detail;
+    if (reply.number == Reply::OUTSIDE) | (reply.number == Reply::SHARED) {
+        return words_of_box(placed, free, reply.detail as usize);
     }
     &placed[..0]
 }

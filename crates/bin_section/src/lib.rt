@@ -1,4 +1,4 @@
-// The ground floor: sides, volume, a section and its words, inside, overlap.
+// The ground floor: sides, volume, a section and its words, inside, overlap and the common box.
 mod bounds;
 mod overlaps;
 mod rect_to_insert;
@@ -6,6 +6,7 @@ mod section;
 mod width_height_depth;
 
 pub use bounds::inside;
+pub use overlaps::Common;
 pub use overlaps::greater;
 pub use overlaps::lesser;
 pub use rect_to_insert::RectToInsert;

@@ -1,3 +1,4 @@
+pub mod Common
 pub mod Try
 pub mod Return
 pub mod Audit

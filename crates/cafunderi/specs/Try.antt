@@ -47,7 +47,7 @@ tryOutcome answer placed = record { reply = answer; placed = placed }
 abbrev pub triedOutcome : Tried → TryOutcome
 triedOutcome t = tryOutcome (reply (numberOf (t .answer)) 0) (triedWords t)
 
--- "a wrong length is 1", and "every refusal but 7 writes nothing"; then the try of the words that are lent
+-- 1: "6, 3 and 21 words"; then nothing is written. Else the try of the words that are lent
 unfoldable pub tryFace : List ℕ → List ℕ → List ℕ → TryOutcome
 tryFace section rectangle placed =
     inOrder (once (reply 1 0) (not (tryLengthsOk section rectangle placed)) ∷ []) (λ r. tryOutcome r placed)

@@ -5,14 +5,16 @@ ghost use Rattle.target_bin.specs.Outcome.{outcome};
 ghost use Rattle.target_bin.specs.Fresh.{freshOf};
 ghost use Rattle.rectangle_pack.specs.Pack.{packOutcome, packOf};
 ghost use Rattle.cafunderi.specs.Try.{tryOutcome, tryFace};
-ghost use Rattle.cafunderi.specs.Return.{returnFace};
-ghost use Rattle.cafunderi.specs.Audit.{auditFace};
+ghost use Rattle.cafunderi.specs.Return.{returnWords, returnFace};
+ghost use Rattle.cafunderi.specs.Audit.{auditWords, auditFace};
 
+mod common_words;
 mod try_words;
 
-use audit::audit_reply;
+use audit::audit_answer;
 use bin_section::BinSection;
 use bin_section::WidthHeightDepth;
+use common_words::hand_on;
 use rectangle_pack::pack;
 use replies::Reply;
 use target_bin::fresh;
@@ -56,23 +58,31 @@ pub extern "C" fn cafunderi_return(
     store: &mut [u32],
     id: u32,
     section: &[u32],
+    common: &mut [u32],
 ) -> Reply
-    ensures { λ r. ⌜ outcome r (now (chambers .exit)) (now (store .exit)) ≡ returnFace (now (chambers .entry)) (now (store .entry)) id (now (section .entry)) ⌝ }
+    ensures { λ r. ⌜ returnWords r (now (chambers .exit)) (now (store .exit)) (now (common .exit)) ≡ returnFace (now (chambers .entry)) (now (store .entry)) id (now (section .entry)) (now (common .entry)) ⌝ }
 {
-    if section.len() != BinSection::WORDS {
+    if (section.len() != BinSection::WORDS) | (common.len() != BinSection::WORDS) {
         return Reply::new(Reply::BAD_LENGTH, 0);
     }
-    return_section(chambers, store, id, BinSection::read(section, 0))
+    let answer = return_section(chambers, store, id, BinSection::read(section, 0));
+    hand_on(answer, common)
 }
 
-// The reply alone crosses over: its detail says where the faulty box lies.
+// Reply and common box cross over, and no part of the lists: the detail says where the faulty box lies.
 #[no_mangle]
-pub extern "C" fn cafunderi_audit(sides: &[u32], placed: &[u32], free: &[u32]) -> Reply
-    ensures { λ r. ⌜ r ≡ auditFace (now (sides .entry)) (now (placed .entry)) (now (free .entry)) ⌝ }
+pub extern "C" fn cafunderi_audit(
+    sides: &[u32],
+    placed: &[u32],
+    free: &[u32],
+    common: &mut [u32],
+) -> Reply
+    ensures { λ r. ⌜ auditWords r (now (common .exit)) ≡ auditFace (now (sides .entry)) (now (placed .entry)) (now (free .entry)) (now (common .entry)) ⌝ }
 {
-    if sides.len() != WidthHeightDepth::WORDS {
+    if (sides.len() != WidthHeightDepth::WORDS) | (common.len() != BinSection::WORDS) {
         return Reply::new(Reply::BAD_LENGTH, 0);
     }
     let whd = WidthHeightDepth::read(sides);
-    audit_reply(whd, placed, free)
+    let answer = audit_answer(whd, placed, free);
+    hand_on(answer, common)
 }

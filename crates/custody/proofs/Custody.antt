@@ -13,6 +13,7 @@ use Rattle.replies.specs.declared.reply.Reply.{Reply}
 use Rattle.bin_section.specs.declared.section.BinSection.{BinSection}
 use Rattle.bin_section.specs.declared.width_height_depth.WidthHeightDepth.{WidthHeightDepth}
 use Rattle.replies.specs.Replies.{reply}
+use Rattle.sections.specs.Common.{commonReply}
 use Rattle.cells.specs.Whole.{Whole}
 use Rattle.sections.specs.Sections.{sections, allWords}
 use Rattle.sections.proofs.Reading.{length-sections, length-allWords, encoded, decoded}
@@ -20,7 +21,7 @@ use Rattle.target_bin.specs.Chambers.{chamberAt, chamberCount}
 use Rattle.target_bin.specs.Store.{partAt, freeAt}
 use Rattle.target_bin.proofs.Parts.{length-partAt}
 use Rattle.bin_section.proofs.Ranges.{range→sides}
-use Rattle.audit.specs.Audit.{boxesOf, auditBoxes, boxListsOk, shownOf, audited, auditOf}
+use Rattle.audit.specs.Audit.{boxesOf, auditBoxes, boxListsOk, auditCommon, auditAnswer, shownOf, auditedWith, audited, auditOf}
 use Rattle.audit.proofs.Means.{audit-means}
 use Rattle.custody.specs.Run.{Hall, Run, fresh, packs, returns, begunWith, SameChambers, placedAt, freeCount, auditAt, AuditAccepts}
 use Rattle.custody.proofs.Between.{Good, same-then}
@@ -62,10 +63,11 @@ lengths-ok p q a b ea eb h =
     and-both (eqb (a % 6) 0) (eqb (b % 6) 0 && leb (a / 6 + b / 6) 1024) (eq-eqb (a % 6) 0 (omega arith))
     (and-both (eqb (b % 6) 0) (leb (a / 6 + b / 6) 1024) (eq-eqb (b % 6) 0 (omega arith)) (le-leb (a / 6 + b / 6) 1024 (omega arith)))
 
--- an audit that answers 0 shows nothing
+-- an audit that answers 0 shows nothing, and hands on no box
 nothing-shown : (whd : WidthHeightDepth) (placed free : List ℕ) → auditOf whd placed free .reply ≡ reply 0 0 → auditOf whd placed free ≡ audited (reply 0 0) []
-unfolding auditOf shownOf
-nothing-shown whd placed free e = ap (λ (a : Reply). audited a (shownOf placed free a)) e
+unfolding auditOf auditAnswer auditCommon shownOf
+nothing-shown whd placed free e =
+    ap (λ (a : Reply). auditedWith (commonReply a (auditCommon (auditBoxes placed free) a)) (shownOf placed free a)) e
 
 -- ---- the theorem
 

@@ -24,7 +24,7 @@ use Rattle.cells.proofs.Insides.{each-inside, inside-each, inside-first, inside
 use Rattle.target_bin.specs.declared.chamber.TargetBin.{TargetBin}
 use Rattle.target_bin.specs.Chambers.{bin, chamberAt, chamberCount, chambersOf, chamberOf}
 use Rattle.target_bin.specs.Store.{freeAt, freeOf}
-use Rattle.target_bin.specs.Outcome.{Outcome, outcome}
+use Rattle.target_bin.specs.Outcome.{outcome, CommonOutcome, withCommon}
 use Rattle.target_bin.specs.Return.{returnOf}
 use Rattle.target_bin.proofs.Tables.{length-chambersOf, getD-chambersOf}
 use Rattle.target_bin.proofs.Parts.{length-freeOf, getD-freeOf}
@@ -48,7 +48,7 @@ module _ (f : Hall) (good : Good f) (id : ℕ) (box : BinSection) (there : retur
   abbrev s : List ℕ
   s = f .store
 
-  abbrev o : Outcome
+  abbrev o : CommonOutcome
   o = returnOf c s id box
 
   abbrev at : ℕ
@@ -153,10 +153,10 @@ module _ (f : Hall) (good : Good f) (id : ℕ) (box : BinSection) (there : retur
 
   refused-good : (o .reply .number ≡ 0 → ⊥) → Good (takenBack f id box)
   refused-good ne =
-      let same : o ≡ outcome (o .reply) c s = return-refusal c s id box ne in
+      let same : o ≡ withCommon (o .common) (outcome (o .reply) c s) = return-refusal c s id box ne in
       let g : Good (hallOf c s (afterReturn (o .reply) id box (f .ledger))) =
       good-ledger c s (f .ledger) (afterReturn (o .reply) id box (f .ledger)) (refused-ledger ne) good in
-      subst (λ (p : Outcome). Good (hallOf (p .chambers) (p .store) (afterReturn (o .reply) id box (f .ledger)))) (sym same) g
+      subst (λ (p : CommonOutcome). Good (hallOf (p .chambers) (p .store) (afterReturn (o .reply) id box (f .ledger)))) (sym same) g
 
   pub return-good : Good (takenBack f id box)
   return-good = go (ℕ-discrete (o .reply .number) 0)
@@ -170,4 +170,4 @@ module _ (f : Hall) (good : Good f) (id : ℕ) (box : BinSection) (there : retur
     where
       go : Dec (o .reply .number ≡ 0) → SameChambers (f .chambers) (returnOf (f .chambers) (f .store) id box .chambers)
       go (yes e) = accepted-same (return-done c s id box e) e
-      go (no ne) = subst (λ (p : Outcome). SameChambers c (p .chambers)) (sym (return-refusal c s id box ne)) (same-chambers c)
+      go (no ne) = subst (λ (p : CommonOutcome). SameChambers c (p .chambers)) (sym (return-refusal c s id box ne)) (same-chambers c)

@@ -12,7 +12,8 @@ use Rattle.lists.specs.Tab.{tab, removeAt, put}
 use Rattle.bin_section.specs.declared.section.BinSection.{BinSection}
 use Rattle.bin_section.specs.Sides.{sides, sideOk}
 use Rattle.bin_section.specs.Section.{section, sectionAt}
-use Rattle.bin_section.specs.Overlap.{spansMeet, overlapsOf}
+use Rattle.bin_section.specs.declared.overlaps.Common.the-variants.{Shared, Apart}
+use Rattle.bin_section.specs.Overlap.{spansMeet, overlapsOf, commonSide, commonBox, commonOf}
 use Rattle.replies.specs.Replies.{reply, inOrder}
 use Rattle.cells.specs.Whole.{volumes}
 use Rattle.words.specs.Words.{joined}
@@ -27,9 +28,9 @@ use Rattle.packing_rules.specs.Appended.{larger, keptOne, kept, appendedOf}
 use Rattle.target_bin.specs.Chambers.{chamberAt, chambersOf, chamberOf}
 use Rattle.target_bin.specs.Checks.{lengthsOk, idOk, shapeOk, chamberOk, badSections}
 use Rattle.target_bin.specs.Store.{partAt, freeAt, freeOf, partOf}
-use Rattle.target_bin.specs.Outcome.{Outcome, outcome}
+use Rattle.target_bin.specs.Outcome.{Outcome, outcome, CommonOutcome, withCommon}
 use Rattle.target_bin.specs.Fresh.{freshTable, freshStore, freshOf}
-use Rattle.target_bin.specs.Return.{pushChecks, returnChecks, returned, returnOf}
+use Rattle.target_bin.specs.Return.{pushChecks, returnChecks, returned, returnOutcome, returnCommon, returnOf}
 use Rattle.grouped_rects_to_place.specs.Rect.{rectAt}
 use Rattle.grouped_rects_to_place.specs.Checks.{badRect, repeatedId}
 use Rattle.grouped_rects_to_place.specs.Groups.{sameGroup, leadOf, isLead, share, groupVolume, keyWith, comesBefore, earlier, groupOrder, groupsOf}
@@ -121,10 +122,10 @@ record Jobs : Type 0 where
   kept-first : packOf (chamberWith 1) (partOf free₀) three (replicate 15 9) ≡ packOutcome (reply 7 1) (chamberWith 1) (partOf free₁) records₁
   -- a pack refused by check 4 changes nothing
   refused : packOf (chamberWith 1) (partOf free₁) faulty (replicate 5 9) ≡ packOutcome (reply 4 0) (chamberWith 1) (partOf free₁) (replicate 5 9)
-  -- a return refused by check 10, since a free section shares a cell with the box, changes nothing
-  shared : returnOf (chamberWith 1) (partOf free₁) 1 (box 5 0 0 2 2 1) ≡ outcome (reply 10 0) (chamberWith 1) (partOf free₁)
+  -- a return refused by check 10, since a free section shares a cell with the box, changes nothing, and hands on the space shared
+  shared : returnOf (chamberWith 1) (partOf free₁) 1 (box 5 0 0 2 2 1) ≡ withCommon (Shared (box 6 0 0 1 2 1)) (outcome (reply 10 0) (chamberWith 1) (partOf free₁))
   -- the return answers 0
-  back : returnOf (chamberWith 1) (partOf free₁) 1 returnedBox ≡ outcome (reply 0 1) (chamberWith 2) (partOf free₄)
+  back : returnOf (chamberWith 1) (partOf free₁) 1 returnedBox ≡ withCommon Apart (outcome (reply 0 1) (chamberWith 2) (partOf free₄))
   -- now the group fits: the second pack answers 0
   again : packOf (chamberWith 2) (partOf free₄) two (replicate 10 9) ≡ packOutcome (reply 0 0) (chamberWith 3) (partOf free₅) records₅
   -- the boxes placed in chamber 1 after each job
@@ -139,16 +140,16 @@ record Jobs : Type 0 where
   still-in : audit.auditOf (sides 10 10 1) (allWords (returnedBox ∷ ledger₅ 1)) (allWords free₅) .reply ≡ reply 17 1
 
 jobs : Jobs
-unfolding lowest anyBelow picked sumTo tab removeAt put sectionAt spansMeet overlapsOf inOrder sections joined spanInside insideOf
+unfolding lowest anyBelow picked sumTo tab removeAt put sectionAt spansMeet overlapsOf commonSide commonBox commonOf inOrder sections joined spanInside insideOf
     sideOk volumes sixSplits chosen ranksOf bestOf bestFrom laterOf betterOf fitChecks fitOf larger keptOne kept appendedOf insertBy insertAll
     chamberAt chambersOf lengthsOk idOk shapeOk chamberOk badSections partAt freeAt freeOf partOf freshTable freshStore freshOf
-    chamberOf pushChecks returnChecks returned returnOf
+    chamberOf pushChecks returnChecks returned returnOutcome returnCommon returnOf
     placementAt rectAt badRect repeatedId sameGroup leadOf isLead share groupVolume keyWith comesBefore earlier groupOrder groupsOf
     placeFrom placeOne placeAll placeGroup order.goesBefore order.triedBefore order.trialOrder seated
     rectsAt trialIn firstWhole placeGroups answerOf dealt packGroups rectLengthsOk mostSections noRoom rectChecks packChecks start packing binsWith written packOf
     placedIn recordBox newBoxes places afterPack sameBox takenOut afterReturn
     lentChambers lentStore three faulty two returnedBox chamberWith free₀ free₁ free₄ free₅ records₁ records₅
-    auditAt audit.auditBoxes audit.boxListsOk sharesEarlier audit.auditReply audit.shownOf
+    auditAt audit.auditBoxes audit.boxListsOk sharesEarlier audit.auditReply audit.auditCommon audit.auditAnswer audit.shownOf
     audit.auditOf ledger₁ ledger₂ ledger₃ ledger₄ ledger₅
 jobs =
     record {
@@ -183,10 +184,10 @@ run =
     subst (λ (o : PackOutcome). Run (hallOf (o .chambers) (o .store) (afterPack (o .reply) faulty (o .placements) ledger₁))) (jobs .refused)
     (packs r₁ faulty (replicate 5 9)) in
     let r₃ : Run (hallOf (chamberWith 1) (partOf free₁) ledger₃) =
-    subst (λ (o : Outcome). Run (hallOf (o .chambers) (o .store) (afterReturn (o .reply) 1 (box 5 0 0 2 2 1) ledger₂))) (jobs .shared)
-    (returns r₂ 1 (box 5 0 0 2 2 1) (λ z. absurd (omega (arith, z, ap (λ (o : Outcome). o .reply .number) (jobs .shared))))) in
+    subst (λ (o : CommonOutcome). Run (hallOf (o .chambers) (o .store) (afterReturn (o .reply) 1 (box 5 0 0 2 2 1) ledger₂))) (jobs .shared)
+    (returns r₂ 1 (box 5 0 0 2 2 1) (λ z. absurd (omega (arith, z, ap (λ (o : CommonOutcome). o .reply .number) (jobs .shared))))) in
     let r₄ : Run (hallOf (chamberWith 2) (partOf free₄) ledger₄) =
-    subst (λ (o : Outcome). Run (hallOf (o .chambers) (o .store) (afterReturn (o .reply) 1 returnedBox ledger₃))) (jobs .back)
+    subst (λ (o : CommonOutcome). Run (hallOf (o .chambers) (o .store) (afterReturn (o .reply) 1 returnedBox ledger₃))) (jobs .back)
     (returns r₃ 1 returnedBox (λ z. jobs .still-placed)) in
     subst (λ (o : PackOutcome). Run (hallOf (o .chambers) (o .store) (afterPack (o .reply) two (o .placements) ledger₄))) (jobs .again)
     (packs r₄ two (replicate 10 9))

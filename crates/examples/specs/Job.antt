@@ -23,7 +23,7 @@ pub data Job : Type 0 where
 
 pub data Answer : Type 0 where
   ofTry : TryShown → Answer
-  ofReturn : tables.Outcome → Answer
+  ofReturn : tables.CommonOutcome → Answer
   ofPack : PackOutcome → Answer
   ofReply : Reply → Answer
   ofAudit : AuditShown → Answer

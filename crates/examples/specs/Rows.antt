@@ -6,13 +6,14 @@ use Rattle.replies.specs.declared.reply.Reply.{Reply}
 use Rattle.replies.specs.Replies.{reply}
 use Rattle.bin_section.specs.declared.width_height_depth.WidthHeightDepth.{WidthHeightDepth}
 use Rattle.bin_section.specs.declared.section.BinSection.{BinSection}
+use Rattle.bin_section.specs.declared.overlaps.Common.the-variants.{Shared, Apart}
 use Rattle.bin_section.specs.Sides.{sides}
 use Rattle.bin_section.specs.Section.{section}
 use Rattle.words.specs.Words.{joined}
 use Rattle.sections.specs.Sections.{allWords}
 use Rattle.target_bin.specs.Store.{storeOf}
 use Rattle.placement.specs.Placements.{placementWidth}
-use Rattle.target_bin.specs.Outcome.{outcome}
+use Rattle.target_bin.specs.Outcome.{outcome, withCommon}
 use Rattle.rectangle_pack.specs.Pack.{packOutcome}
 use Rattle.examples.specs.Shown.{LentTables, freshShown}
 use Rattle.examples.specs.Job.{Job, tries, returns, packs, replies, audits, Answer, ofTry, ofReturn, ofPack, ofReply, ofAudit}
@@ -22,8 +23,10 @@ infix 80 _detail_
 infix 75 _free_
 infix 70 split_ties_volumes_appended_
 infix 70 returned_leaving_
+infix 70 returned_sharing_leaving_
 infix 70 packed_placements_leaving_
 infix 70 audited_shown_sum_
+infix 70 audited_sharing_shown_sum_
 infix 68 _gives_
 -- a row: a job, and what it gives
 pub record Example : Type 0 where
@@ -124,7 +127,11 @@ abbrev pub return : LentTables → ℕ → BinSection → Job
 return = returns
 
 abbrev pub returned_leaving_ : Reply → List WithFree → Answer
-returned r leaving cs = ofReturn (outcome r (tablesOf cs .chambers) (tablesOf cs .store))
+returned r leaving cs = ofReturn (withCommon Apart (outcome r (tablesOf cs .chambers) (tablesOf cs .store)))
+
+-- with the common box that is handed on
+abbrev pub returned_sharing_leaving_ : Reply → BinSection → List WithFree → Answer
+returned r sharing b leaving cs = ofReturn (withCommon (Shared b) (outcome r (tablesOf cs .chambers) (tablesOf cs .store)))
 
 -- ---- a pack of coils, and all tables afterwards
 
@@ -147,4 +154,8 @@ abbrev pub audit : WidthHeightDepth → List BinSection → List BinSection → 
 audit whd placed open′ = audits whd (allWords placed) (allWords open′)
 
 abbrev pub audited_shown_sum_ : Reply → List BinSection → ℕ → Answer
-audited r shown bs sum n = ofAudit (record { reply = r; shown = allWords bs; sum = n })
+audited r shown bs sum n = ofAudit (record { reply = r; common = Apart; shown = allWords bs; sum = n })
+
+-- with the common box that is handed on
+abbrev pub audited_sharing_shown_sum_ : Reply → BinSection → List BinSection → ℕ → Answer
+audited r sharing b shown bs sum n = ofAudit (record { reply = r; common = Shared b; shown = allWords bs; sum = n })

@@ -13,10 +13,11 @@ use Rattle.replies.specs.declared.reply.Reply.{Reply}
 use Rattle.replies.specs.Replies.{inOrder}
 use Rattle.bin_section.specs.declared.width_height_depth.WidthHeightDepth.{WidthHeightDepth}
 use Rattle.bin_section.specs.declared.section.BinSection.{BinSection}
+use Rattle.bin_section.specs.declared.overlaps.Common.{Common}
 use Rattle.bin_section.specs.declared.rect_to_insert.RectToInsert.{RectToInsert}
 use Rattle.bin_section.specs.Sides.{sideOk, volumeOf}
 use Rattle.bin_section.specs.Section.{sectionAt}
-use Rattle.bin_section.specs.Overlap.{spansMeet, overlapsOf}
+use Rattle.bin_section.specs.Overlap.{spansMeet, overlapsOf, commonSide, commonBox, commonOf}
 use Rattle.bin_section.specs.Inside.{spanInside, insideOf}
 use Rattle.cells.specs.Whole.{volumes}
 use Rattle.try_place.specs.declared.choice.Ranked.{Ranked}
@@ -27,6 +28,7 @@ use Rattle.packing_rules.specs.Appended.{larger, keptOne, kept, appendedOf}
 use Rattle.words.specs.Words.{joined}
 use Rattle.sections.specs.Sections.{sections}
 use Rattle.sections.specs.Inside.{sharesEarlier}
+use Rattle.sections.specs.Common.{firstCommon, earliestCommon}
 use Rattle.target_bin.specs.Chambers.{chamberAt, chamberOf, chambersOf}
 use Rattle.target_bin.specs.Checks.{lengthsOk, idOk, shapeOk, chamberOk, badSections}
 use Rattle.target_bin.specs.Store.{partAt, freeAt, freeOf, partOf}
@@ -83,10 +85,10 @@ tryShown r s =
 
 -- ---- a return and a pack: all that they leave, as the rules say it
 
-unfoldable pub returnShown : LentTables → ℕ → BinSection → tables.Outcome
-unfolding lowest anyBelow put inOrder sectionAt spansMeet overlapsOf spanInside insideOf sideOk joined
+unfoldable pub returnShown : LentTables → ℕ → BinSection → tables.CommonOutcome
+unfolding lowest anyBelow put inOrder sectionAt spansMeet overlapsOf commonSide commonBox commonOf spanInside insideOf sideOk joined
     chamberAt lengthsOk idOk shapeOk chamberOk badSections partAt partOf chamberOf
-    ret.pushChecks ret.returnChecks ret.returned ret.returnOf
+    ret.pushChecks ret.returnChecks ret.returned ret.returnOutcome ret.returnCommon ret.returnOf
 returnShown t id box = ret.returnOf (t .chambers) (t .store) id box
 
 unfoldable pub packShown : LentTables → List ℕ → List ℕ → PackOutcome
@@ -114,14 +116,16 @@ freshShown t =
 
 pub record AuditShown : Type 0 where
   pub reply : Reply
+  pub common : Common
   -- the words that it shows
   pub shown : List ℕ
   -- what the volumes of all boxes sum to
   pub sum : ℕ
 
 unfoldable pub auditShown : WidthHeightDepth → List ℕ → List ℕ → AuditShown
-unfolding lowest anyBelow tab inOrder sectionAt spansMeet overlapsOf spanInside insideOf sideOk volumes
-    sections auditing.auditBoxes auditing.boxListsOk sharesEarlier auditing.auditReply auditing.shownOf auditing.auditOf
+unfolding lowest anyBelow tab inOrder sectionAt spansMeet overlapsOf commonSide commonBox commonOf spanInside insideOf sideOk volumes
+    sections auditing.auditBoxes auditing.boxListsOk sharesEarlier firstCommon earliestCommon auditing.auditReply auditing.auditCommon auditing.auditAnswer
+    auditing.shownOf auditing.auditOf
 auditShown whd placed free =
     let a = auditing.auditOf whd placed free in
-    record { reply = a .reply; shown = a .shown; sum = volumes (auditing.auditBoxes placed free) }
+    record { reply = a .reply; common = a .common; shown = a .shown; sum = volumes (auditing.auditBoxes placed free) }

@@ -22,12 +22,14 @@ use Rattle.examples.specs.Rows.{
   refusedWith,
   return,
   returned_leaving_,
+  returned_sharing_leaving_,
   pack,
   packed_placements_leaving_,
   packReply,
   replied,
   audit,
   audited_shown_sum_,
+  audited_sharing_shown_sum_,
 }
 
 unfoldable pub table : List Example
@@ -55,15 +57,24 @@ table =
     ∷ pack (fresh (chamber 1 (10 by 10 by 1) ∷ chamber 2 (10 by 10 by 1) ∷ [])) (coil 1 5 (10 by 6 by 1) ∷ coil 2 5 (10 by 6 by 1) ∷ [])
     gives packed (7 detail 0) placements (waits ∷ waits ∷ [])
     leaving (chamber 1 (10 by 10 by 1) free (box 0 0 0 10 10 1 ∷ []) ∷ chamber 2 (10 by 10 by 1) free (box 0 0 0 10 10 1 ∷ []) ∷ [])
-    -- P8: "free (0,0,0;10,10,1), return (2,2,0;3,3,1): 10"
+    -- P8: "free (0,0,0;10,10,1), return (2,2,0;3,3,1): 10"; the whole box is shared
     ∷ return (tablesOf (chamber 1 (10 by 10 by 1) free (box 0 0 0 10 10 1 ∷ []) ∷ [])) 1 (box 2 2 0 3 3 1)
-    gives returned (10 detail 0) leaving (chamber 1 (10 by 10 by 1) free (box 0 0 0 10 10 1 ∷ []) ∷ [])
+    gives returned (10 detail 0) sharing (box 2 2 0 3 3 1) leaving (chamber 1 (10 by 10 by 1) free (box 0 0 0 10 10 1 ∷ []) ∷ [])
+    -- a box that shares only a corner, with the second free section
+    ∷ return (tablesOf (chamber 1 (10 by 10 by 1) free (box 0 0 0 4 4 1 ∷ box 4 4 0 4 4 1 ∷ []) ∷ [])) 1 (box 6 6 0 4 4 1)
+    gives returned (10 detail 1) sharing (box 6 6 0 2 2 1) leaving (chamber 1 (10 by 10 by 1) free (box 0 0 0 4 4 1 ∷ box 4 4 0 4 4 1 ∷ []) ∷ [])
     -- P9: "10x10x1 with no free section, return (8,0,0;5,1,1): 9"
     ∷ return (tablesOf (chamber 1 (10 by 10 by 1) free [] ∷ [])) 1 (box 8 0 0 5 1 1)
     gives returned (9 detail 0) leaving (chamber 1 (10 by 10 by 1) free [] ∷ [])
     -- P10: "2x2x1 with (0,0,0;2,1,1) and (0,0,0;1,2,1): 17, detail 1, though the volumes sum to 4."
-    ∷ audit (2 by 2 by 1) (box 0 0 0 2 1 1 ∷ box 0 0 0 1 2 1 ∷ []) [] gives audited (17 detail 1) shown (box 0 0 0 1 2 1 ∷ []) sum 4
-    ∷ audit (2 by 2 by 1) (box 0 0 0 2 1 1 ∷ []) (box 0 0 0 1 2 1 ∷ []) gives audited (17 detail 1) shown (box 0 0 0 1 2 1 ∷ []) sum 4
+    ∷ audit (2 by 2 by 1) (box 0 0 0 2 1 1 ∷ box 0 0 0 1 2 1 ∷ []) [] gives audited (17 detail 1) sharing (box 0 0 0 1 1 1) shown (box 0 0 0 1 2 1 ∷ []) sum 4
+    ∷ audit (2 by 2 by 1) (box 0 0 0 2 1 1 ∷ []) (box 0 0 0 1 2 1 ∷ []) gives audited (17 detail 1) sharing (box 0 0 0 1 1 1) shown (box 0 0 0 1 2 1 ∷ []) sum 4
+    -- a free box that meets both placed ones: the space that it shares with the earliest
+    ∷ audit (4 by 2 by 1) (box 0 0 0 2 1 1 ∷ box 2 0 0 2 1 1 ∷ []) (box 1 0 0 2 2 1 ∷ [])
+    gives audited (17 detail 2) sharing (box 1 0 0 1 1 1) shown (box 1 0 0 2 2 1 ∷ []) sum 8
+    -- one that meets a free box alone
+    ∷ audit (4 by 1 by 1) (box 0 0 0 1 1 1 ∷ []) (box 1 0 0 2 1 1 ∷ box 2 0 0 2 1 1 ∷ [])
+    gives audited (17 detail 2) sharing (box 2 0 0 1 1 1) shown (box 2 0 0 2 1 1 ∷ []) sum 5
     -- P11: "2x2x1, no boxes: 18."
     ∷ audit (2 by 2 by 1) [] [] gives audited (18 detail 0) shown [] sum 0
     -- the whole example of the audit program; a free box that reaches past the chamber, and a placed one with a zero side before it

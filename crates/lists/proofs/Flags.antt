@@ -11,6 +11,12 @@ pub false-of : (a : Bool) → (a ≡ true → ⊥) → a ≡ false
 false-of true h = absurd (h refl)
 false-of false h = refl
 
+-- a test that would have let the other through, and did not
+pub false-unless : (a t : Bool) → (a ≡ true → t ≡ true) → not t ≡ true → a ≡ false
+false-unless a true f n = absurd (true-false (sym n))
+false-unless true false f n = sym (f refl)
+false-unless false false f n = refl
+
 pub and-both : (a b : Bool) → a ≡ true → b ≡ true → (a && b) ≡ true
 and-both true b p q = q
 and-both false b p q = p

@@ -1,15 +1,16 @@
 -- Laws of the quick test: a bit that is in both differences where two spans meet, and the sections of a list four at a time.
 use Prim.Native.Nat.{ℕ, _+_, _*_, _%_, _-_, _^_, _≤_, _<_, min, max}
 use mathlib.Core.Path.{_≡_, refl, ap₂, _∙_}
-use mathlib.Core.Bool.{Bool, true, false, _&&_}
+use mathlib.Core.Bool.{Bool, true, false}
 use native.Mathlib.Nat.{add-zero}
 use native.Mathlib.Omega.{arith}
-use borrow.Author.Tests.{ltb-true}
+use borrow.Author.Tests.{ltb-true, le-leb}
+use lib.Dec.{leb}
 use lib.Bits.{bitAnd, bitOr, and-block, and-le-r, or-add-and, or-comm}
 use Rattle.lists.specs.Lowest.{anyBelow}
-use Rattle.lists.proofs.Flags.{and-first}
 use Rattle.bin_section.specs.declared.section.BinSection.{BinSection}
 use Rattle.bin_section.specs.Overlap.{spansMeet, overlapsOf}
+use Rattle.bin_section.proofs.Sharing.{meets}
 
 -- ---- the bit
 
@@ -42,11 +43,26 @@ meet-near a s b t p q ha hs hb ht hp hq ep eq e =
     let kq = wrapped-has q a (b + t) (omega (arith, h)) (omega arith) hq eq in
     have-both p q (p - 9223372036854775808) (q - 9223372036854775808) (omega arith) (omega arith) (omega arith) (omega arith)
 
-pub overlap-meets : (a b : BinSection) → overlapsOf a b ≡ true → spansMeet (a .x) (a .whd .width) (b .x) (b .whd .width) ≡ true
-unfolding overlapsOf
-overlap-meets a b e =
-    and-first (spansMeet (a .x) (a .whd .width) (b .x) (b .whd .width))
-    (spansMeet (a .y) (a .whd .height) (b .y) (b .whd .height) && spansMeet (a .z) (a .whd .depth) (b .z) (b .whd .depth)) e
+-- two boxes that overlap have it on each axis
+pub all-near :
+    (a b : BinSection) (p q r : ℕ)
+    → p < 2 ^ 64
+    → q < 2 ^ 64
+    → r < 2 ^ 64
+    → (spansMeet (a .x) (a .whd .width) (b .x) (b .whd .width) ≡ true → 9223372036854775808 ≤ p)
+    → (spansMeet (a .y) (a .whd .height) (b .y) (b .whd .height) ≡ true → 9223372036854775808 ≤ q)
+    → (spansMeet (a .z) (a .whd .depth) (b .z) (b .whd .depth) ≡ true → 9223372036854775808 ≤ r)
+    → overlapsOf a b ≡ true
+    → leb 9223372036854775808 (bitAnd p (bitAnd q r)) ≡ true
+all-near a b p q r hp hq hr fp fq fr e =
+    let m = meets a b e in
+    let kp = fp (m .on-x) in
+    let kq = fq (m .on-y) in
+    let kr = fr (m .on-z) in
+    let qr = have-both q r (q - 9223372036854775808) (r - 9223372036854775808) (omega arith) (omega arith) (omega arith) (omega arith) in
+    let small = and-le-r q r in
+    le-leb 9223372036854775808 (bitAnd p (bitAnd q r))
+    (have-both p (bitAnd q r) (p - 9223372036854775808) (bitAnd q r - 9223372036854775808) (omega arith) (omega arith) (omega arith) (omega arith))
 
 -- a test that is false where it would have the bit
 pub far-false : (t : Bool) (r : ℕ) → (t ≡ true → 9223372036854775808 ≤ r) → r < 9223372036854775808 → false ≡ t

@@ -4,7 +4,7 @@ use mathlib.Core.Path.{_≡_, refl, sym, ap, _∙_}
 use mathlib.Core.List.{List}
 use native.Mathlib.Omega.{arith}
 use lib.ListN.{length, getD, take, drop}
-use lib.Seq.{ext-getD, getD-take, getD-drop}
+use lib.Seq.{ext-getD, length-take-le, getD-take, getD-drop}
 use Rattle.lists.specs.Tab.{put}
 use Rattle.lists.proofs.Tabs.{length-tab, getD-tab}
 use Rattle.words.proofs.Records as records
@@ -35,6 +35,14 @@ sections-ext w v n h =
     ext-getD zeroSection (sections w n) (sections v n) (length-sections w n ∙ sym (length-sections v n))
     (λ k b. let b′ : k < n = omega (arith, length-sections w n) in
     getD-sections w n k zeroSection b′ ∙ h k b′ ∙ sym (getD-sections v n k zeroSection b′))
+
+pub take-sections : (w : List ℕ) (n j : ℕ) → j ≤ n → take j (sections w n) ≡ sections w j
+take-sections w n j h =
+    ext-getD zeroSection (take j (sections w n)) (sections w j)
+    (length-take-le j (sections w n) (omega (arith, length-sections w n)) ∙ sym (length-sections w j))
+    (λ k b.
+    let b′ : k < j = omega (arith, length-take-le j (sections w n) (omega (arith, length-sections w n))) in
+    getD-take j (sections w n) k zeroSection b′ ∙ getD-sections w n k zeroSection (omega arith) ∙ sym (getD-sections w j k zeroSection b′))
 
 -- ---- reading and writing are each other's inverse
 

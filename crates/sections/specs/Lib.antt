@@ -1,3 +1,4 @@
 pub mod Sections
 pub mod Inside
+pub mod Common
 pub mod Leaning

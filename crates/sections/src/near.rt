@@ -1,13 +1,16 @@
-// The first section of a list that shares a cell with a box. It goes four at a time: most lie apart along the first axis, and one test there
-// passes over four.
+// The first section of a list that shares a cell with a box, and the space that they share. The search goes four at a time: most lie apart along
+// the first axis, and one test there passes over four.
 ghost use mathlib.Core.Path.{_≡_};
 ghost use mathlib.Core.Bool.{true, false};
 ghost use Prim.Native.Nat.{_+_, _*_, _≤_};
 ghost use lib.ListN.{length};
 ghost use Rattle.lists.specs.Lowest.{lowest, anyBelow};
-ghost use Rattle.bin_section.specs.Overlap.{spansMeet};
+ghost use Rattle.bin_section.specs.Overlap.{spansMeet, overlapsOf};
+ghost use Rattle.sections.specs.Sections.{sections};
 ghost use Rattle.sections.specs.Inside.{sharesAt};
+ghost use Rattle.sections.specs.Common.{firstCommon};
 use bin_section::BinSection;
+use bin_section::Common;
 
 // The highest bit: 2 to the 63.
 const NEAR: u64 = 9223372036854775808;
@@ -61,13 +64,40 @@ fn pass_over(words: &[u32], i: usize, n: usize, other: BinSection) -> usize
     j
 }
 
+// False only where the two boxes share no cell: on some axis they do not meet.
+fn near(a: BinSection, b: BinSection) -> bool
+    ensures { λ r. ⌜ (overlapsOf a b ≡ true → r ≡ true) ⌝ }
+{
+    let on_x = nearness(a.x, a.whd.width, b.x, b.whd.width);
+    let on_y = nearness(a.y, a.whd.height, b.y, b.whd.height);
+    let on_z = nearness(a.z, a.whd.depth, b.z, b.whd.depth);
+    NEAR <= on_x & (on_y & on_z)
+}
+
+// Whether the section at index i shares a cell with the box. Most lie apart, and the quick test tells so: the overlap test, which would make
+// a common box, is left for the others.
+fn shares(words: &[u32], i: usize, other: BinSection) -> bool
+    requires { ⌜ i * 6 + 6 ≤ length (now words) ⌝ }
+    ensures { λ r. ⌜ r ≡ sharesAt other (now (words .entry)) i ⌝ }
+{
+    let section = BinSection::read(words, i);
+    if !near(section, other) {
+        return false;
+    }
+    let common = section.overlaps(other);
+    let Common::Shared(_) = common else {
+        return false;
+    };
+    true
+}
+
 // The first of the m sections from index i on that shares a cell with the box, each looked at; i + m where none does. None before i does.
 fn first_from(words: &[u32], i: usize, m: usize, other: BinSection) -> usize
     requires { ⌜ ((i + m) * 6 ≤ length (now words)) × (i ≤ lowest (i + m) (sharesAt other (now words))) ⌝ }
     ensures { λ r. ⌜ r ≡ lowest (i + m) (sharesAt other (now (words .entry))) ⌝ }
 {
     for k in 0..m {
-        if BinSection::read(words, i + k).overlaps(other) {
+        if shares(words, i + k, other) {
             return i + k;
         }
     }
@@ -89,4 +119,16 @@ pub fn first_sharing(words: &[u32], n: usize, other: BinSection) -> usize
         i = pass_over(words, i + 4, n, other);
     }
     first_from(words, i, n - i, other)
+}
+
+// The common box of the box and the first of the n sections that shares a cell with it; none where none does.
+pub fn first_common(words: &[u32], n: usize, other: BinSection) -> Common
+    requires { ⌜ n * 6 ≤ length (now words) ⌝ }
+    ensures { λ r. ⌜ r ≡ firstCommon other (sections (now (words .entry)) n) ⌝ }
+{
+    let met = first_sharing(words, n, other);
+    if n <= met {
+        return Common::Apart;
+    }
+    BinSection::read(words, met).overlaps(other)
 }

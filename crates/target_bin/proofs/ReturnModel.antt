@@ -1,40 +1,45 @@
 -- What a return leaves, as lists: one count more and the box among the free sections; and where it is accepted.
 use Prim.Native.Nat.{ℕ, suc, _+_, _*_, _/_, _≤_, _<_}
-use mathlib.Core.Path.{_≡_, refl, sym, ap, ap₂, _∙_}
+use mathlib.Core.Path.{_≡_, refl, sym, ap, ap₂, _∙_, subst}
 use mathlib.Core.Logic.{_↔_}
 use mathlib.Core.List.{List, [], _∷_, _++_}
 use mathlib.Core.Bool.{not, true, false, Bool}
 use native.Mathlib.Decide.{ℕ-discrete}
 use native.Mathlib.Omega.{arith}
 use borrow.Author.Tests.{eqb-true, eqb-false, ltb-true, not-false, lt-ltb, ne-eqb}
+use lib.Dec.{eqb}
 use lib.ListN.{length, set, length-set}
 use Rattle.lists.specs.Lowest.{lowest, anyBelow}
 use Rattle.lists.specs.Tab.{put}
 use Rattle.lists.proofs.Tabs.{length-put}
 use Rattle.lists.proofs.Flags.{true-false}
-use Rattle.lists.proofs.Lowests.{lowest-fires}
+use Rattle.lists.proofs.Lowests.{lowest-fires, none-below-lowest, any-lowest}
 use Rattle.bin_section.specs.declared.section.BinSection.{BinSection}
 use Rattle.replies.specs.declared.reply.Reply.{Reply}
-use Rattle.bin_section.specs.Section.{sectionAt, sectionWords}
+use Rattle.bin_section.specs.Section.{sectionAt, sectionWords, zeroSection}
+use Rattle.bin_section.specs.declared.overlaps.Common.the-variants.{Apart}
 use Rattle.bin_section.specs.Sides.{sides}
+use Rattle.bin_section.specs.Boxes.{boxAt}
 use Rattle.bin_section.specs.Cell.{SharesCell}
+use Rattle.bin_section.specs.Overlap.{overlapsOf, commonOf}
 use Rattle.bin_section.proofs.Sharing.{shares→overlaps, overlaps→shares}
 use Rattle.replies.specs.Replies.{Check, reply}
 use Rattle.sections.specs.Sections.{sections}
 use Rattle.sections.specs.Inside.{sharesAt}
+use Rattle.sections.specs.Common.{EarliestSpace}
+use Rattle.sections.proofs.Searching.{earliest-space}
 use Rattle.bin_section.specs.Inside.{Inside}
 use Rattle.bin_section.proofs.Bounding.{inside→, →inside}
-use Rattle.lists.proofs.Lowests.{any-lowest}
 use Rattle.sections.proofs.Moves.{appended}
-use Rattle.sections.proofs.Reading.{sectionAt-put-same, sectionAt-put-other}
+use Rattle.sections.proofs.Reading.{sectionAt-put-same, sectionAt-put-other, length-sections, getD-sections}
 use Rattle.target_bin.specs.declared.chamber.TargetBin.{TargetBin}
 use Rattle.target_bin.specs.Chambers.{bin, chamberAt, chamberCount, chambersOf, hasId, chamberOf}
 use Rattle.target_bin.specs.Store.{partAt, freeAt, freeOf}
 use Rattle.target_bin.specs.Leaning.{OnlyIn}
 use Rattle.target_bin.specs.Checks.{tableChecks}
-use Rattle.target_bin.specs.Outcome.{Outcome, outcome, refused}
-use Rattle.target_bin.specs.Return.{pushChecks, returnChecks, stored, returned, returnOf}
-use Rattle.replies.proofs.Ladders.{row-passes, alone-fires, past, past-all, in-map, no-fault, none-passes}
+use Rattle.target_bin.specs.Outcome.{Outcome, outcome, refused, CommonOutcome, withCommon}
+use Rattle.target_bin.specs.Return.{pushChecks, returnChecks, stored, returned, returnOutcome, returnCommon, returnOf}
+use Rattle.replies.proofs.Ladders.{of-each, row-passes, alone-fires, past, past-all, in-map, no-fault, none-passes}
 use Rattle.target_bin.proofs.Tables.{chamberAt-set-same, chamberAt-set-other, chambers-set}
 use Rattle.target_bin.proofs.Parts.{length-partAt, partAt-put-same, only-in, free-set}
 use Rattle.target_bin.proofs.Passing.{Sound, tables-pass, tables-sound}
@@ -187,9 +192,9 @@ module _ (chambers store : List ℕ) (id : ℕ) (box : BinSection) where
       go false e = e
 
   -- what an accepted return leaves
-  pub return-result : Accepted → returnOf chambers store id box ≡ stored chambers store (chamberOf chambers id) (chamberAt chambers (chamberOf chambers id) .count) box
-  unfolding returnOf returned returnChecks pushChecks
-  return-result a =
+  outcome-result : Accepted → returnOutcome chambers store id box ≡ stored chambers store (chamberOf chambers id) (chamberAt chambers (chamberOf chambers id) .count) box
+  unfolding returnOutcome returned returnChecks pushChecks
+  outcome-result a =
       let p8 = ap not (known-fires (a .known)) in
       let p9 = ap not (→inside (there .whd) box (a .box-in)) in
       let p10 = none-passes _ _ (record { at = λ j l. apart-passes j (a .apart j l) }) in
@@ -197,9 +202,13 @@ module _ (chambers store : List ℕ) (id : ℕ) (box : BinSection) where
       past _ _ (tableChecks chambers store) _ (tables-pass chambers store (a .sound-before))
       ∙ past-all _ _ (returnChecks chambers store id box) (p8, (p9, (p10, (p11, tt))))
 
+  pub return-result : Accepted → returnOf chambers store id box ≡ withCommon Apart (stored chambers store (chamberOf chambers id) (chamberAt chambers (chamberOf chambers id) .count) box)
+  unfolding returnOf returnCommon
+  return-result a = ap (λ (o : Outcome). withCommon (returnCommon (partAt store here) box (o .reply)) o) (outcome-result a)
+
   -- reply 0 is given exactly there
   pub return-done : returnOf chambers store id box .reply .number ≡ 0 → Accepted
-  unfolding returnOf returnChecks pushChecks chamberOf
+  unfolding returnOf returnOutcome returnChecks pushChecks chamberOf
   return-done z =
       let p = row-passes (λ o. o .reply .number) (refused chambers store) (returned chambers store id box) row _ refl refl z in
       let s : Sound chambers store = tables-sound chambers store (p .0, (p .1 .0, (p .1 .1 .0, tt))) in
@@ -219,21 +228,65 @@ module _ (chambers store : List ℕ) (id : ℕ) (box : BinSection) where
       }
 
   pub return-exact : (returnOf chambers store id box .reply .number ≡ 0) ↔ Accepted
-  return-exact = (return-done, λ a. ap (λ (o : Outcome). o .reply .number) (return-result a))
+  return-exact = (return-done, λ a. ap (λ (o : CommonOutcome). o .reply .number) (return-result a))
 
   -- any other reply leaves both tables as they were
-  pub return-refusal : (returnOf chambers store id box .reply .number ≡ 0 → ⊥) → returnOf chambers store id box ≡ outcome (returnOf chambers store id box .reply) chambers store
-  unfolding returnOf returned
-  return-refusal ne =
+  outcome-refusal : (returnOutcome chambers store id box .reply .number ≡ 0 → ⊥) → returnOutcome chambers store id box ≡ outcome (returnOutcome chambers store id box .reply) chambers store
+  unfolding returnOutcome returned
+  outcome-refusal ne =
       sym (alone-fires (λ r. r .number) (refused chambers store) _ row (reply 0 (there .count)) _ refl
       (in-map (refused chambers store) (returned chambers store id box) (λ o. o .reply) row) ne)
 
+  pub return-refusal : (returnOf chambers store id box .reply .number ≡ 0 → ⊥) → returnOf chambers store id box ≡ withCommon (returnOf chambers store id box .common) (outcome (returnOf chambers store id box .reply) chambers store)
+  unfolding returnOf
+  return-refusal ne =
+      ap (λ (o : Outcome). withCommon (returnCommon (partAt store here) box (returnOutcome chambers store id box .reply)) o) (outcome-refusal ne)
+
+  -- the lowest section that check 10 finds
+  abbrev met : ℕ
+  met = lowest (there .count) (sharesAt box (partAt store here))
+
+  named-met : (r : Reply) → r ≡ returnOutcome chambers store id box .reply → r .number ≡ 10 → (r .detail ≡ met) × (met < there .count)
+  unfolding returnOutcome returned returnChecks pushChecks
+  named-met r e =
+      subst Named (sym (e ∙ in-map (refused chambers store) (returned chambers store id box) (λ o. o .reply) row))
+      (of-each Named row (reply 0 (there .count))
+      (λ _. other 1 0 refl, λ _. (λ _. other 2 _ refl, λ _. (λ _. other 3 _ refl, λ _. (λ _. other 8 0 refl, λ _. (λ _. other 9 0 refl, λ _. (λ f h. (refl, ltb-true _ _ f), λ _. (λ _. other 11 0 refl, λ _. other 0 _ refl))))))))
+    where
+      Named : Reply → Type 0
+      Named q = q .number ≡ 10 → (q .detail ≡ met) × (met < there .count)
+
+      other : (n d : ℕ) → eqb n 10 ≡ false → Named (reply n d)
+      other n d ne h = absurd (eqb-false n 10 ne h)
+
+  -- where a return is refused with 10: the free section that the detail names is the earliest that the box meets, and the common box is theirs
+  pub return-shares : (i : ℕ) → returnOf chambers store id box .reply ≡ reply 10 i → EarliestSpace (freeAt chambers store (chamberOf chambers id)) box i (returnOf chambers store id box .common)
+  unfolding returnOf returnCommon freeAt
+  return-shares i e =
+      let part = partAt store here in
+      let n = there .count in
+      let free = sections part n in
+      let p = named-met (reply 10 i) (sym e) refl in
+      let l : i < n = omega (arith, p .0, p .1) in
+      let at : (k : ℕ) → k < n → boxAt free k ≡ sectionAt part k = λ k b. getD-sections part n k zeroSection b in
+      let f : sharesAt box part i ≡ true = ap (sharesAt box part) (p .0) ∙ lowest-fires n (sharesAt box part) (p .1) in
+      earliest-space free box i _
+      (record { at = λ k b. ap (λ (s : BinSection). overlapsOf s box) (at k (omega arith)) ∙ none-below-lowest n (sharesAt box part) .at k (omega (arith, p .0)) })
+      (omega (arith, length-sections part n))
+      (ap (λ (s : BinSection). overlapsOf s box) (at i l) ∙ f)
+      (rw e (ap (λ (s : BinSection). commonOf s box) (sym (at i l))))
+
+  -- any other reply hands on none
+  pub return-none : (returnOf chambers store id box .reply .number ≡ 10 → ⊥) → returnOf chambers store id box .common ≡ Apart
+  unfolding returnOf returnCommon
+  return-none ne = rw (ne-eqb (returnOutcome chambers store id box .reply .number) 10 ne)
+
   -- after an accepted return: the chambers, their free sections, and that the tables are sound
   pub return-chambers : Accepted → chambersOf (returnOf chambers store id box .chambers) ≡ set (chambersOf chambers) (chamberOf chambers id) (bin (chamberAt chambers (chamberOf chambers id) .id) (chamberAt chambers (chamberOf chambers id) .whd) (chamberAt chambers (chamberOf chambers id) .count + 1))
-  return-chambers a = ap (λ (o : Outcome). chambersOf (o .chambers)) (return-result a) ∙ stored-chambers chambers store here box (a .sound-before) (a .known) (a .room)
+  return-chambers a = ap (λ (o : CommonOutcome). chambersOf (o .chambers)) (return-result a) ∙ stored-chambers chambers store here box (a .sound-before) (a .known) (a .room)
 
   pub return-free : Accepted → freeOf (returnOf chambers store id box .chambers) (returnOf chambers store id box .store) ≡ set (freeOf chambers store) (chamberOf chambers id) (freeAt chambers store (chamberOf chambers id) ++ (box ∷ []))
-  return-free a = ap (λ (o : Outcome). freeOf (o .chambers) (o .store)) (return-result a) ∙ stored-free chambers store here box (a .sound-before) (a .known) (a .room)
+  return-free a = ap (λ (o : CommonOutcome). freeOf (o .chambers) (o .store)) (return-result a) ∙ stored-free chambers store here box (a .sound-before) (a .known) (a .room)
 
   pub return-sound : Accepted → Sound (returnOf chambers store id box .chambers) (returnOf chambers store id box .store)
   return-sound a = rw (return-result a) (stored-sound chambers store here box (a .sound-before) (a .known) (a .room) (a .box-in))

@@ -1,13 +1,16 @@
--- The return of a section.
+-- The return of a section, and the common box that it hands on.
 use Prim.Native.Nat.{ℕ, _+_, _*_}
 use mathlib.Core.List.{List, [], _∷_, _++_}
-use mathlib.Core.Bool.{not}
+use mathlib.Core.Bool.{not, cond}
 use lib.ListN.{set}
 use lib.Dec.{eqb}
 use Rattle.lists.specs.Lowest.{anyBelow}
 use Rattle.lists.specs.Tab.{put}
 use Rattle.bin_section.specs.declared.section.BinSection.{BinSection}
-use Rattle.bin_section.specs.Section.{sectionWords}
+use Rattle.bin_section.specs.declared.overlaps.Common.{Common}
+use Rattle.bin_section.specs.declared.overlaps.Common.the-variants.{Apart}
+use Rattle.bin_section.specs.Section.{sectionAt, sectionWords}
+use Rattle.bin_section.specs.Overlap.{commonOf}
 use Rattle.replies.specs.declared.reply.Reply.{Reply}
 use Rattle.replies.specs.Replies.{Check, reply, once, each, inOrder}
 use Rattle.bin_section.specs.Inside.{insideOf}
@@ -16,7 +19,7 @@ use Rattle.target_bin.specs.declared.chamber.TargetBin.{TargetBin}
 use Rattle.target_bin.specs.Chambers.{chamberAt, chamberCount, hasId, chamberOf}
 use Rattle.target_bin.specs.Store.{partAt}
 use Rattle.target_bin.specs.Checks.{tableChecks}
-use Rattle.target_bin.specs.Outcome.{Outcome, outcome, refused}
+use Rattle.target_bin.specs.Outcome.{Outcome, outcome, refused, CommonOutcome, withCommon}
 
 -- 9: "box has a zero side or reaches past the chamber"; 10: "a free section shares a cell with the box"; 11: "128 sections are there"
 unfoldable pub pushChecks : TargetBin → List ℕ → BinSection → List (Check Reply)
@@ -38,8 +41,18 @@ unfoldable pub returned : List ℕ → List ℕ → ℕ → BinSection → Outco
 returned chambers store id box =
     stored chambers store (chamberOf chambers id) (chamberAt chambers (chamberOf chambers id) .count) box
 
--- "Return: 1, 2, 3, 8, 9, 10, 11."
-unfoldable pub returnOf : List ℕ → List ℕ → ℕ → BinSection → Outcome
-returnOf chambers store id box =
+-- "Return: 1, 2, 3, 8, 9, 10, 11.": its reply, and both tables afterwards
+unfoldable pub returnOutcome : List ℕ → List ℕ → ℕ → BinSection → Outcome
+returnOutcome chambers store id box =
     inOrder (tableChecks chambers store ++ returnChecks chambers store id box) (refused chambers store)
     (returned chambers store id box)
+
+-- "Return with 10 .. hand it on beside the detail": the common box of the box and the free section that the detail names; otherwise none
+unfoldable pub returnCommon : List ℕ → BinSection → Reply → Common
+returnCommon part box r = cond (eqb (r .number) 10) (commonOf (sectionAt part (r .detail)) box) Apart
+
+-- all that a return answers and leaves, on every input
+unfoldable pub returnOf : List ℕ → List ℕ → ℕ → BinSection → CommonOutcome
+returnOf chambers store id box =
+    let o = returnOutcome chambers store id box in
+    withCommon (returnCommon (partAt store (chamberOf chambers id)) box (o .reply)) o

@@ -1,23 +1,24 @@
-use Rattle.lists.proofs.Kit.{sym, ap, _∙_, now, needs}
-use Rattle.bin_section.specs.declared.width_height_depth.WidthHeightDepth.{WidthHeightDepth}
-use Rattle.replies.proofs.Ladders.{checks, past-all}
-use Rattle.audit.specs.Audit.{auditReply}
+use Rattle.lists.proofs.Kit.{_≡_, arith, now, length, needs}
+use Rattle.replies.proofs.Ladders.{checks}
 use Rattle.cafunderi.specs.Audit.{auditFace}
-use Rattle.cafunderi.proofs.Faces.{right-length}
+use Rattle.cafunderi.proofs.Faces.{right-lengths, face-audited}
 use Rattle.cafunderi.proofs.cafunderi_audit as it
 
+-- what is known past check 1
+right : (c : it.Tie.Else1) → let a = c .before .before .before .before .before .args in (length (now (a .sides)) ≡ 3) × (length (now (a .common)) ≡ 6)
+right c = right-lengths _ _ _ _ (c .if1 .left)
+
 returns-2 : it.Tie.Need-returns-2
-unfolding auditFace
 returns-2 c =
-    let r = c .before in
-    let e = r .before in
-    let a = e .before .before .before .before .args in
-    c .audit-reply .ensures
-    ∙ ap (λ (s : WidthHeightDepth). auditReply s (now (a .placed)) (now (a .free))) (r .read .ensures)
-    ∙ sym (past-all _ _ _ (right-length _ _ (e .if1 .left), tt))
+    let h = c .before .before in
+    let a = h .before .before in
+    let r = a .before in
+    face-audited _ _ _ _ (h .hand-on .ensures .0) (h .hand-on .ensures .1) _ _ _ (r .before .if1 .left) _ (r .read .ensures) (a .audit-answer .ensures)
 
 pub cafunderi-audit-spec : {M : Type 1} → it.Statement.statement M
 unfolding auditFace
 cafunderi-audit-spec =
     it.Tie.close
-    (it.Tie.spec (λ c κs. search needs) (λ c. search checks) (λ c κs. search needs) (λ c κs. search needs) returns-2)
+    (it.Tie.spec (λ c κs. search needs) (λ c. rw (c .new .ensures) (search checks))
+    (λ c κs. omega (arith, right c .0)) (λ c κs. search needs)
+    (λ c κs. right (c .before .before .before) .1) (λ c. search needs) returns-2)

@@ -11,11 +11,11 @@ abbrev μ-loop : it.Tie.MeasureT-loop
 μ-loop words i m other k₀ k = m - k
 
 loop-again : it.Tie.Need-loop-again Inv-loop μ-loop
-loop-again c = omega (arith, lowest-next _ _ _ (c .before .before .before .before .loop .inv) (search needs) (cc))
+loop-again c = omega (arith, lowest-next _ _ _ (c .before .before .before .loop .inv) (search needs) (cc))
 
 pub first-from-spec : {M : Type 1} → it.Statement.statement M
 first-from-spec =
     it.Tie.close
-    (it.Tie.spec Inv-loop μ-loop (λ c. search needs) (λ c. search needs) (λ c κs. search needs) (λ c κs. search needs)
+    (it.Tie.spec Inv-loop μ-loop (λ c. search needs) (λ c. search needs) (λ c κs. search needs)
     (λ c. search needs) (λ c. lowest-at _ _ _ (search needs) (search needs) (cc)) (λ c. search needs) (λ c. search needs)
     loop-again (λ c. search needs) (λ c. lowest-over _ _ _ (c .before .loop .inv) (search needs)))

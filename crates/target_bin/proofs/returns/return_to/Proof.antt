@@ -1,10 +1,10 @@
 use Rattle.lists.proofs.Kit.{arith, refl, ℕ, _+_, _*_, _≤_, _<_, _≡_, ap, _∙_, List, length, needs}
-use Rattle.target_bin.proofs.Checking.{outcome-is}
 use Rattle.target_bin.specs.declared.chamber.TargetBin.{TargetBin}
 use Rattle.target_bin.specs.Chambers.{chamberAt, chamberCount}
 use Rattle.target_bin.specs.Leaning.{Shaped}
+use Rattle.target_bin.specs.Return.{returnCommon}
 use Rattle.target_bin.proofs.Parts.{lent-part, length-partAt}
-use Rattle.target_bin.proofs.Returning.{return-unknown, return-refused, return-accepted, return-room}
+use Rattle.target_bin.proofs.Returning.{return-unknown, return-common, return-refused, return-accepted, return-room}
 use Rattle.target_bin.proofs.returns.return_to as it
 
 -- the chamber's part is in the store
@@ -16,9 +16,10 @@ count-in : (chambers store : List ℕ) (k : ℕ) (b : TargetBin) → Shaped cham
 count-in chambers store k b shaped h read = omega (arith, ap (λ (x : TargetBin). x .count) read, shaped .counted .counts k h)
 
 returns : it.Tie.Need-returns
+unfolding returnCommon
 returns c =
-    outcome-is _ _ _ _ _ _ (c .new .ensures) refl refl
-    ∙ return-unknown _ _ _ _ _ (c .before .before .find-chamber .ensures) (c .before .if1 .taken)
+    let n = c .before in
+    rw (c .plain .ensures, n .new .ensures) (refl, return-unknown _ _ _ _ _ (n .before .before .find-chamber .ensures) (n .before .if1 .taken))
 
 push-available-bin-section-requires : it.Tie.Need-push-available-bin-section-requires
 push-available-bin-section-requires c κs =
@@ -34,8 +35,11 @@ returns-2 c =
     let e = r .before .before in
     let f = e .before in
     let pre = f .before .before .before .before .pre in
-    return-refused _ _ _ _ _ (f .find-chamber .ensures) _ (e .if1 .left) (r .read .ensures) (part-in _ _ _ pre (e .if1 .left)) _ _
-    (p .push-available-bin-section .kept .0) (p .push-available-bin-section .ensures .0) (p .push-available-bin-section .ensures .1) (c .if2 .taken)
+    let push = p .push-available-bin-section in (
+      return-common _ _ _ _ _ (f .find-chamber .ensures) _ _ (push .ensures .1 .0),
+      return-refused _ _ _ _ _ (f .find-chamber .ensures) _ (e .if1 .left) (r .read .ensures) (part-in _ _ _ pre (e .if1 .left)) _ _
+          (push .kept .0) (push .ensures .0) (push .ensures .1 .1) (c .if2 .taken),
+    )
 
 add-write-count : it.Tie.Need-add-write-count
 add-write-count c =
@@ -55,14 +59,16 @@ returns-3 c =
     let pre = f .before .before .before .before .pre in
     let push = p .push-available-bin-section in
     let room = return-room _ _ _ _ _ (f .find-chamber .ensures) _ (e .if1 .left) (r .read .ensures) (part-in _ _ _ pre (e .if1 .left)) _ _
-    (push .kept .0) (push .ensures .0) (push .ensures .1) (d .if2 .left) (count-in _ _ _ _ pre (e .if1 .left) (r .read .ensures)) in
-    return-accepted _ _ _ _ _ (f .find-chamber .ensures) _ (e .if1 .left) (r .read .ensures) (part-in _ _ _ pre (e .if1 .left)) _ _
-    (push .kept .0) (push .ensures .0) (push .ensures .1) _ (d .if2 .left) room (w .write-count .ensures)
+    (push .kept .0) (push .ensures .0) (push .ensures .1 .1) (d .if2 .left) (count-in _ _ _ _ pre (e .if1 .left) (r .read .ensures)) in (
+      return-common _ _ _ _ _ (f .find-chamber .ensures) _ _ (push .ensures .1 .0),
+      return-accepted _ _ _ _ _ (f .find-chamber .ensures) _ (e .if1 .left) (r .read .ensures) (part-in _ _ _ pre (e .if1 .left)) _ _
+          (push .kept .0) (push .ensures .0) (push .ensures .1 .1) _ (d .if2 .left) room (w .write-count .ensures),
+    )
 
 pub return-to-spec : {M : Type 1} → it.Statement.statement M
 return-to-spec =
     it.Tie.close
-    (it.Tie.spec (λ c κs. search needs) (λ c κs. search needs) (λ c. search needs) returns (λ c κs. search needs)
+    (it.Tie.spec (λ c κs. search needs) (λ c κs. search needs) (λ c κs. search needs) (λ c. search needs) returns (λ c κs. search needs)
     (λ c. search needs) (λ c. search needs) (λ c. search needs) (λ c. search needs) (λ c. search needs)
     (λ c. search needs) push-available-bin-section-requires (λ c. search needs) (λ c. search needs) returns-2
     add-write-count (λ c κs. search needs) (λ c. search needs) (λ c. search needs) returns-3)
