@@ -201,11 +201,10 @@ module _ (whd : WidthHeightDepth) (placed free : List ℕ) (a : boxListsOk (leng
       rw e
       (earlier-space boxes j (omega (arith, p .below)) (some→shares boxes j (p .earlier) (p .less) (p .shares)))
 
-  without : ((j : ℕ) → ¬ (auditReply whd placed free ≡ reply 17 j)) → auditOf whd placed free .common ≡ overlap.Apart
-  unfolding auditOf auditAnswer auditCommon
-  without n =
-      cond-no _ _ (eqb (auditReply whd placed free .number) 17)
-      (ne-eqb _ _ (λ e. n (auditReply whd placed free .detail) (ap (λ (k : ℕ). reply k (auditReply whd placed free .detail)) e)))
+-- any other reply than 17 hands on none, on every input
+pub audit-none : (whd : WidthHeightDepth) (placed free : List ℕ) → (auditOf whd placed free .reply .number ≡ 17 → ⊥) → auditOf whd placed free .common ≡ overlap.Apart
+unfolding auditOf auditAnswer auditCommon
+audit-none whd placed free ne = cond-no _ _ (eqb (auditReply whd placed free .number) 17) (ne-eqb _ _ ne)
 
 -- ---- the theorem
 
@@ -226,7 +225,7 @@ audit-means whd placed free a b =
       shared = λ j. (to-shared whd boxes answer j f, from-shared whd placed free a b j);
       missing = (to-gap whd boxes answer f, from-gap whd placed free a b);
       space = with-shared whd placed free a b;
-      no-space = without whd placed free a b;
+      no-space = λ n. audit-none whd placed free (λ e. n (answer .detail) (ap (λ (k : ℕ). reply k (answer .detail)) e));
     }
 
 -- with 16 or 17 the words shown are those of the box that the detail names

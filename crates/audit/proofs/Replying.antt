@@ -124,10 +124,6 @@ module _ (whd : WidthHeightDepth) (placed free : List ℕ) (a : CommonReply) (e 
   unfolding auditAnswer
   audit-replied = ap (λ (q : CommonReply). q .reply) e
 
-  pub audit-reply-of : a .reply ≡ auditOf whd placed free .reply
-  unfolding auditOf
-  audit-reply-of = ap (λ (q : CommonReply). q .reply) e
-
   pub audit-common-of : (w : List ℕ) (c : Common) → c ≡ a .common → w ≡ commonWords c → w ≡ commonWords (auditOf whd placed free .common)
   unfolding auditOf
   audit-common-of w c h k = k ∙ ap (λ (x : Common). commonWords x) (h ∙ ap (λ (q : CommonReply). q .common) e)

@@ -72,6 +72,6 @@ auditedWith answer shown = record { reply = answer .reply; common = answer .comm
 abbrev pub audited : Reply → List ℕ → Audited
 audited answer shown = auditedWith (plainReply answer) shown
 
--- what the audit answers, hands on and shows, on every input
+-- what the audit answers, hands on and shows, on every input: beside the common box "all else stays as before"
 unfoldable pub auditOf : WidthHeightDepth → List ℕ → List ℕ → Audited
 auditOf whd placed free = auditedWith (auditAnswer whd placed free) (shownOf placed free (auditReply whd placed free))

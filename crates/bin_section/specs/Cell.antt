@@ -23,7 +23,7 @@ pub record SharesCell (a b : BinSection) : Type 0 where
   pub first : HasCell a cx cy cz
   pub second : HasCell b cx cy cz
 
--- a box has all the cells that two boxes share, and no other; it has no zero side
+-- "the common box": it has all the cells that two boxes share, and no other, and it has no zero side
 pub record SharedSpace (a b box : BinSection) : Type 0 where
   pub wide : 0 < box .whd .width
   pub tall : 0 < box .whd .height

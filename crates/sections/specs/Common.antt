@@ -12,7 +12,7 @@ use Rattle.bin_section.specs.Cell.{SharesCell, CommonMeans}
 use Rattle.bin_section.specs.Overlap.{overlapsOf, commonOf}
 use Rattle.sections.specs.declared.common_reply.CommonReply.{CommonReply}
 
--- the common box of a box and the earliest of a list that it meets; none where it meets none
+-- "the common box, or none": of a box and the earliest of a list that it meets; none where it meets none
 unfoldable pub firstCommon : BinSection → List BinSection → Common
 firstCommon box [] = Apart
 firstCommon box (b ∷ bs) = cond (overlapsOf b box) (commonOf b box) (firstCommon box bs)
@@ -22,7 +22,7 @@ firstCommon box (b ∷ bs) = cond (overlapsOf b box) (commonOf b box) (firstComm
 unfoldable pub earliestCommon : List BinSection → ℕ → Common
 earliestCommon boxes j = firstCommon (boxAt boxes j) (take j boxes)
 
--- what is handed on with a box that meets one of a list: the box at i is the earliest of the list that it meets, and the common box is theirs
+-- what is handed on, in cells: the box at i is "the earliest box that the named one meets" of a list, and the common box is theirs
 pub record EarliestSpace (boxes : List BinSection) (box : BinSection) (i : ℕ) (common : Common) : Type 0 where
   pub listed : i < length boxes
   pub before : (k : ℕ) → k < i → ¬ (SharesCell (boxAt boxes k) box)

@@ -51,7 +51,7 @@ returnOutcome chambers store id box =
 unfoldable pub returnCommon : List ℕ → BinSection → Reply → Common
 returnCommon part box r = cond (eqb (r .number) 10) (commonOf (sectionAt part (r .detail)) box) Apart
 
--- all that a return answers and leaves, on every input
+-- all that a return answers and leaves, on every input: beside the common box "all else stays as before"
 unfoldable pub returnOf : List ℕ → List ℕ → ℕ → BinSection → CommonOutcome
 returnOf chambers store id box =
     let o = returnOutcome chambers store id box in

@@ -1,5 +1,6 @@
 use Rattle.lists.proofs.Kit.{refl, now, needs}
-use Rattle.audit.proofs.Replying.{named-box, audit-replied, audit-reply-of, audit-common-of, audit-named, audit-silent}
+use Rattle.audit.specs.Audit.{auditAnswer, auditOf}
+use Rattle.audit.proofs.Replying.{named-box, audit-replied, audit-common-of, audit-named, audit-silent}
 use Rattle.audit.proofs.Places.{shown-silent}
 use Rattle.audit.proofs.audit as it
 
@@ -11,22 +12,24 @@ words-of-box-requires c κs =
     named-box (s .whd) (now (s .placed)) (now (s .free)) _ (audit-replied _ _ _ _ (a .audit-answer .ensures)) (t .if1 .taken)
 
 returns : it.Tie.Need-returns
+unfolding auditOf auditAnswer
 returns c =
     let t = c .before .before in
     let w = t .before .before .before .before in
     let a = w .before .before in
     let e = a .audit-answer .ensures in (
-      (audit-reply-of _ _ _ _ e, audit-common-of _ _ _ _ e _ _ refl (w .write .ensures)),
+      (audit-replied _ _ _ _ e, audit-common-of _ _ _ _ e _ _ refl (w .write .ensures)),
       (audit-named _ _ _ _ e _ (t .if1 .taken) (c .words-of-box .ensures .0), λ _. c .words-of-box .ensures .1),
     )
 
 returns-2 : it.Tie.Need-returns-2
+unfolding auditOf auditAnswer
 returns-2 c =
     let l = c .before in
     let w = l .before .before .before .before in
     let a = w .before .before in
     let e = a .audit-answer .ensures in (
-      (audit-reply-of _ _ _ _ e, audit-common-of _ _ _ _ e _ _ refl (w .write .ensures)),
+      (audit-replied _ _ _ _ e, audit-common-of _ _ _ _ e _ _ refl (w .write .ensures)),
       (audit-silent _ _ _ _ e (l .if1 .left), shown-silent _ _ _ _ _ (l .if1 .left)),
     )
 
