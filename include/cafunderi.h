@@ -1,4 +1,4 @@
-/* Cafunderi: boxes packed into chambers. The C face of the five jobs.
+/* Cafunderi: boxes packed into chambers. The C face of the six jobs.
  *
  * Build the archive with `rt staticlib cafunderi`. It is for x86-64 Linux and needs memcpy and memset of the C library.
  *
@@ -21,7 +21,7 @@
  * Replies. `reply` is a number of this list, `detail` says where. Indices start at 0, and the lowest faulty one is given.
  * A detail that is not named is 0.
  *
- *    0  done; return: the detail is the index of the new section
+ *    0  done; return: the detail is the index of the new section; join: the detail is the number of joins
  *    1  a table's length is wrong
  *    2  a chamber's id is not above its predecessor's, a side is 0 or above 65,535, or the count is above 128;
  *       the detail is the chamber's index (audit: 0)
@@ -31,10 +31,12 @@
  *    5  a rectangle's id stands at an earlier index too; the detail is the index of the later
  *    6  free count + 2 x rectangles is above 128; the detail is the chamber's index
  *    7  not enough space; the detail is the first index of the refused group
- *    8  return: no chamber has the id
+ *    8  return, join: no chamber has the id
  *    9  return: the box has a zero side or reaches past the chamber
  *   10  return: a free section shares a cell with the box; the detail is the section's index, and the common box is
- *       handed on
+ *       handed on.
+ *       Join: a free section shares a cell with an earlier one; the detail is the index of the later, and the common
+ *       box is handed on
  *   11  return: 128 sections are there
  *   12  try: the rectangle is wider than the section
  *   13  try: it is taller
@@ -107,6 +109,19 @@ cafunderi_reply cafunderi_return(uint32_t *chambers, size_t chambers_len,
                                  uint32_t id,
                                  const uint32_t *box, size_t box_len,
                                  uint32_t *common, size_t common_len);
+
+/* Joins free neighbours in the chamber that has the id. Two sections join where they have equal origins and sides on two
+ * axes and touch on the third, either way round. As long as two of the chamber's sections join, the pair with the lowest
+ * first index, then the lowest second, is taken: the joined box stands at the first, the second is removed, and later ones
+ * move down. After each join the search begins again at 0.
+ * Reply 0: that chamber's count and its sections are written, and the words of its store past the count are 0, also where
+ * nothing joins. No other word of the two tables is written. Replies 1, 2, 3, 8 and 10 write nothing to them.
+ * `common`, of 6 words, gets the common box of reply 10: the space that the section which the detail names shares with the
+ * earliest section that it meets. At every other reply but 1 it gets six zeros. Reply 1 leaves it as it is. */
+cafunderi_reply cafunderi_join(uint32_t *chambers, size_t chambers_len,
+                               uint32_t *store, size_t store_len,
+                               uint32_t id,
+                               uint32_t *common, size_t common_len);
 
 /* Audits one chamber: its sides, 3 words, and two lists of boxes of 6 words each, placed and free, at most 1,024 together.
  * Reply 0: each unit cell of the chamber lies in exactly one box. Replies 1, 2, 16, 17 and 18: see above. Indices count the

@@ -56,10 +56,7 @@ fn whole([nx, ny, nz]: [u32; 3]) -> Chamber {
 }
 
 fn shuffled(mut chamber: Chamber) -> Chamber {
-    let mut random = Random(7);
-    for i in (1..chamber.boxes.len()).rev() {
-        chamber.boxes.swap(i, random.below(i as u32 + 1) as usize);
-    }
+    Random(7).shuffle(&mut chamber.boxes);
     chamber
 }
 

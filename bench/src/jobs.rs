@@ -6,10 +6,10 @@ pub const SECTION: usize = 6;
 pub const RECORD: usize = 5;
 pub const STORE: usize = 768;
 
-type Sides = [u32; 3];
-type Section = [u32; SECTION];
+pub type Sides = [u32; 3];
+pub type Section = [u32; SECTION];
 
-/// What is lent to one pack.
+/// What is lent to one pack, or without the rectangles to one join.
 #[derive(Clone)]
 pub struct Job {
     pub chambers: Vec<u32>,
@@ -19,7 +19,7 @@ pub struct Job {
 
 impl Job {
     /// Chambers with the given free sections, and rectangles with their groups. Ids run from 1.
-    fn new(chambers: &[(Sides, Vec<Section>)], rectangles: &[(u32, Sides)]) -> Job {
+    pub fn new(chambers: &[(Sides, Vec<Section>)], rectangles: &[(u32, Sides)]) -> Job {
         let mut job = Job {
             chambers: Vec::new(),
             store: vec![0; chambers.len() * STORE],
@@ -167,5 +167,11 @@ impl Random {
     pub fn below(&mut self, n: u32) -> u32 {
         self.0 = self.0.wrapping_mul(1664525).wrapping_add(1013904223);
         (self.0 >> 8) % n
+    }
+
+    pub fn shuffle<T>(&mut self, list: &mut [T]) {
+        for i in (1..list.len()).rev() {
+            list.swap(i, self.below(i as u32 + 1) as usize);
+        }
     }
 }

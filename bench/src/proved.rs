@@ -31,6 +31,16 @@ mod face {
             placements_len: usize,
         ) -> Reply;
 
+        pub fn cafunderi_join(
+            chambers: *mut u32,
+            chambers_len: usize,
+            store: *mut u32,
+            store_len: usize,
+            id: u32,
+            common: *mut u32,
+            common_len: usize,
+        ) -> Reply;
+
         pub fn cafunderi_audit(
             sides: *const u32,
             sides_len: usize,
@@ -76,6 +86,23 @@ pub fn pack(
 }
 
 /// The reply, and the common box that it hands on.
+pub fn join(chambers: &mut [u32], store: &mut [u32], id: u32) -> (Reply, [u32; 6]) {
+    let mut common = [u32::MAX; 6];
+    let reply = unsafe {
+        face::cafunderi_join(
+            chambers.as_mut_ptr(),
+            chambers.len(),
+            store.as_mut_ptr(),
+            store.len(),
+            id,
+            common.as_mut_ptr(),
+            common.len(),
+        )
+    };
+    (reply, common)
+}
+
+/// Likewise.
 pub fn audit(sides: &[u32; 3], placed: &[u32], free: &[u32]) -> (Reply, [u32; 6]) {
     let mut common = [u32::MAX; 6];
     let reply = unsafe {

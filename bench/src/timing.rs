@@ -8,31 +8,31 @@ const FEWEST: usize = 20;
 
 /// The least time of a call on each side, in microseconds.
 pub struct Times {
-    rust: f64,
+    other: f64,
     proved: f64,
 }
 
 impl Times {
-    /// Runs `rust` and `proved` in turn, round after round. Each answers the microseconds of a call in its round.
-    pub fn least(mut rust: impl FnMut() -> f64, mut proved: impl FnMut() -> f64) -> Times {
+    /// Runs `other` and `proved` in turn, round after round. Each answers the microseconds of a call in its round.
+    pub fn least(mut other: impl FnMut() -> f64, mut proved: impl FnMut() -> f64) -> Times {
         let mut times = Times {
-            rust: f64::MAX,
+            other: f64::MAX,
             proved: f64::MAX,
         };
         let start = Instant::now();
         let mut rounds = 0;
         while rounds < FEWEST || start.elapsed() < SPENT {
-            times.rust = times.rust.min(rust());
+            times.other = times.other.min(other());
             times.proved = times.proved.min(proved());
             rounds += 1;
         }
         times
     }
 
-    pub fn print_head() {
+    pub fn print_head(other: &str) {
         println!(
             "{:<56} {:>10} {:>10} {:>7}",
-            "microseconds a call", "Rust", "proved", "ratio"
+            "microseconds a call", other, "proved", "ratio"
         );
     }
 
@@ -40,9 +40,9 @@ impl Times {
         println!(
             "{:<56} {:>10.2} {:>10.2} {:>7.2}",
             name,
-            self.rust,
+            self.other,
             self.proved,
-            self.rust / self.proved
+            self.other / self.proved
         );
     }
 }

@@ -1,4 +1,4 @@
-/* A program in C that calls the five jobs, shows what they answer and holds each answer to the value it must have.
+/* A program in C that calls the six jobs, shows what they answer and holds each answer to the value it must have.
  * It ends with status 1 if one is off. */
 #include <stdio.h>
 #include <string.h>
@@ -109,13 +109,32 @@ int main(void)
     expect("return a box of five words", cafunderi_return(TABLE(chambers), TABLE(store), ID, seven, WORDS - 1, TABLE(common)), 1, 0);
     expect("return with five words for the common box",
            cafunderi_return(TABLE(chambers), TABLE(store), ID, TABLE(over), common, WORDS - 1), 1, 0);
+    expect("join with five words for the common box", cafunderi_join(TABLE(chambers), TABLE(store), ID, common, WORDS - 1), 1, 0);
     expect_words("common box", common, TABLE(shared));
+    expect("join in a chamber that is not there", cafunderi_join(TABLE(chambers), TABLE(store), ID + 1, TABLE(common)), 8, 0);
+    expect_zeros("no common box", common, 0, WORDS);
     expect("pack with one placement record",
            cafunderi_pack(TABLE(chambers), TABLE(store), TABLE(rectangles), placements, CAFUNDERI_PLACEMENT_WORDS), 1, 0);
     expect_words("placements of 7 and 3", placements, TABLE(both_placed));
     expect_words("chamber", chambers, (const uint32_t[]){ID, 10, 10, 1, 3}, CAFUNDERI_CHAMBER_WORDS);
     expect_words("free", store, TABLE(three_free));
     expect_zeros("the store", store, 3 * WORDS, CAFUNDERI_STORE_WORDS);
+
+    /* Box 3 comes back too. The chamber is free, in four pieces. Rectangle 8 fits none of them, and fits once they are joined. */
+    const uint32_t eight[CAFUNDERI_RECTANGLE_WORDS] = {8, 0, 10, 7, 1};
+    uint32_t placement[CAFUNDERI_PLACEMENT_WORDS];
+    expect("return 3", cafunderi_return(TABLE(chambers), TABLE(store), ID, boxes, WORDS, TABLE(common)), 0, 3);
+    expect("pack 8, 10x7x1", cafunderi_pack(TABLE(chambers), TABLE(store), TABLE(eight), TABLE(placement)), 7, 0);
+    expect_zeros("an unplaced record", placement, 0, CAFUNDERI_PLACEMENT_WORDS);
+    memset(common, 0xff, sizeof common);
+    expect("join", cafunderi_join(TABLE(chambers), TABLE(store), ID, TABLE(common)), 0, 3);
+    expect_zeros("no common box", common, 0, WORDS);
+    expect_words("chamber", chambers, (const uint32_t[]){ID, 10, 10, 1, 1}, CAFUNDERI_CHAMBER_WORDS);
+    expect_words("free", store, TABLE(whole));
+    expect_zeros("the store", store, WORDS, CAFUNDERI_STORE_WORDS);
+    expect("pack 8, 10x7x1", cafunderi_pack(TABLE(chambers), TABLE(store), TABLE(eight), TABLE(placement)), 0, 0);
+    expect_words("placement of 8", placement, (const uint32_t[]){1, ID, 0, 0, 0}, CAFUNDERI_PLACEMENT_WORDS);
+    expect_words("free", store, (const uint32_t[]){0, 7, 0, 10, 3, 1}, WORDS);
 
     /* Empty tables. */
     expect("fresh, no chambers", cafunderi_fresh(NULL, 0, NULL, 0), 0, 0);

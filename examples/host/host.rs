@@ -1,4 +1,4 @@
-//! A program in Rust that calls the five jobs, shows what they answer and holds each answer to the value it must have.
+//! A program in Rust that calls the six jobs, shows what they answer and holds each answer to the value it must have.
 //! It ends with status 1 if one is off. It does what host.c does, and writes the same lines.
 
 /// The exported functions as slices. A slice that is written overlaps no other, and that is all a caller owes.
@@ -40,6 +40,15 @@ mod cafunderi {
                 id: u32,
                 section: *const u32,
                 section_len: usize,
+                common: *mut u32,
+                common_len: usize,
+            ) -> Reply;
+            pub fn cafunderi_join(
+                chambers: *mut u32,
+                chambers_len: usize,
+                store: *mut u32,
+                store_len: usize,
+                id: u32,
                 common: *mut u32,
                 common_len: usize,
             ) -> Reply;
@@ -104,6 +113,20 @@ mod cafunderi {
                 id,
                 section.as_ptr(),
                 section.len(),
+                common.as_mut_ptr(),
+                common.len(),
+            )
+        }
+    }
+
+    pub fn join(chambers: &mut [u32], store: &mut [u32], id: u32, common: &mut [u32]) -> Reply {
+        unsafe {
+            c::cafunderi_join(
+                chambers.as_mut_ptr(),
+                chambers.len(),
+                store.as_mut_ptr(),
+                store.len(),
+                id,
                 common.as_mut_ptr(),
                 common.len(),
             )
@@ -221,13 +244,34 @@ fn main() {
     held.reply("return a box of five words", short, 1, 0);
     let narrow = cafunderi::return_section(&mut chambers, &mut store, ID, &over, &mut common[..5]);
     held.reply("return with five words for the common box", narrow, 1, 0);
+    let narrow = cafunderi::join(&mut chambers, &mut store, ID, &mut common[..5]);
+    held.reply("join with five words for the common box", narrow, 1, 0);
     held.words("common box", &common, &[4, 1, 0, 2, 2, 1]);
+    let nowhere = cafunderi::join(&mut chambers, &mut store, ID + 1, &mut common);
+    held.reply("join in a chamber that is not there", nowhere, 8, 0);
+    held.zeros("no common box", &common);
     let few = cafunderi::pack(&mut chambers, &mut store, &rectangles, &mut placements[..5]);
     held.reply("pack with one placement record", few, 1, 0);
     held.words("placements of 7 and 3", &placements, &both_placed);
     held.words("chamber", &chambers, &[ID, 10, 10, 1, 3]);
     held.words("free", &store[..18], &three_free);
     held.zeros("the store", &store[18..]);
+
+    // Box 3 comes back too. The chamber is free, in four pieces. Rectangle 8 fits none of them, and fits once they are joined.
+    let eight = [8, 0, 10, 7, 1];
+    let mut placement = [u32::MAX; 5];
+    held.reply("return 3", cafunderi::return_section(&mut chambers, &mut store, ID, three, &mut common), 0, 3);
+    held.reply("pack 8, 10x7x1", cafunderi::pack(&mut chambers, &mut store, &eight, &mut placement), 7, 0);
+    held.zeros("an unplaced record", &placement);
+    common = [u32::MAX; 6];
+    held.reply("join", cafunderi::join(&mut chambers, &mut store, ID, &mut common), 0, 3);
+    held.zeros("no common box", &common);
+    held.words("chamber", &chambers, &[ID, 10, 10, 1, 1]);
+    held.words("free", &store[..6], &[0, 0, 0, 10, 10, 1]);
+    held.zeros("the store", &store[6..]);
+    held.reply("pack 8, 10x7x1", cafunderi::pack(&mut chambers, &mut store, &eight, &mut placement), 0, 0);
+    held.words("placement of 8", &placement, &[1, ID, 0, 0, 0]);
+    held.words("free", &store[..6], &[0, 7, 0, 10, 3, 1]);
 
     // Empty tables.
     held.reply("fresh, no chambers", cafunderi::fresh(&mut [], &mut []), 0, 0);

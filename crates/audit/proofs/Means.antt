@@ -26,8 +26,9 @@ use Rattle.sections.specs.Inside.{sharesEarlier}
 use Rattle.sections.specs.Common.{EarliestSpace}
 use Rattle.sections.proofs.Searching.{earlier-space}
 use Rattle.audit.specs.Audit.{auditBoxes, boxListsOk, auditReply, auditCommon, auditAnswer, shownOf, auditOf}
+use Rattle.sections.proofs.Earlier.{not-shares→apart, apart→not-shares, some→shares, lowest→first, first→lowest}
 use Rattle.audit.specs.Meaning.{Given, FirstOutside, FirstShared, CellInNoBox, AuditMeans}
-use Rattle.audit.proofs.Tests.{none-inside, inside-none, not-shares→apart, apart→not-shares, shares→some, some→shares}
+use Rattle.audit.proofs.Tests.{none-inside, inside-none}
 use Rattle.audit.proofs.TwoLists.{words-box}
 use Rattle.audit.proofs.Replying.{firstOutside, firstShared, reply-outside, reply-shared, reply-gap, reply-whole, namesBox, named-box}
 
@@ -56,23 +57,10 @@ module _ (whd : WidthHeightDepth) (boxes : List BinSection) where
   end-inside h = none-inside whd boxes (none-of-lowest (length boxes) (λ i. outside whd (boxAt boxes i)) h)
 
   at-shared : AllInside whd boxes → firstShared boxes < length boxes → FirstShared whd boxes (firstShared boxes)
-  at-shared inside h =
-      let s = shares→some boxes (firstShared boxes) (lowest-fires (length boxes) (sharesEarlier boxes) h) in
-      record {
-        inside = inside;
-        below = h;
-        before = λ i k l b. not-shares→apart boxes k (none-below-lowest (length boxes) (sharesEarlier boxes) .at k b) i l;
-        earlier = s .0;
-        less = s .1;
-        shares = s .2;
-      }
+  at-shared inside h = record { inside = inside; first = lowest→first boxes h }
 
   shared-at : (j : ℕ) → FirstShared whd boxes j → firstShared boxes ≡ j
-  shared-at j p =
-      lowest-here (length boxes) j (sharesEarlier boxes)
-      (record { at = λ k l. apart→not-shares boxes k (λ i h. p .before i k h l) })
-      (p .below)
-      (some→shares boxes j (p .earlier) (p .less) (p .shares))
+  shared-at j p = first→lowest boxes j (p .first)
 
   apart-end : Apart boxes → firstShared boxes ≡ length boxes
   apart-end p = lowest-none (length boxes) (sharesEarlier boxes) (record { at = λ j h. apart→not-shares boxes j (λ i l. p .at i j l h) })
@@ -133,7 +121,7 @@ module _ (whd : WidthHeightDepth) (placed free : List ℕ) (a : boxListsOk (leng
   from-shared j p =
       let e = shared-at whd boxes j p in
       let ins = inside-end whd boxes (p .inside) in
-      let h = p .below in
+      let h = p .first .below in
       sym (reply-shared whd placed free a b (omega arith) (omega arith)) ∙ ap (λ (k : ℕ). reply 17 k) e
 
   from-gap : CellInNoBox whd boxes → r ≡ reply 18 0
@@ -199,7 +187,7 @@ module _ (whd : WidthHeightDepth) (placed free : List ℕ) (a : boxListsOk (leng
       let boxes = auditBoxes placed free in
       let p = to-shared whd boxes (auditReply whd placed free) j (found whd placed free a b) e in
       rw e
-      (earlier-space boxes j (omega (arith, p .below)) (some→shares boxes j (p .earlier) (p .less) (p .shares)))
+      (earlier-space boxes j (omega (arith, p .first .below)) (some→shares boxes j (p .first .earlier) (p .first .less) (p .first .shares)))
 
 -- any other reply than 17 hands on none, on every input
 pub audit-none : (whd : WidthHeightDepth) (placed free : List ℕ) → (auditOf whd placed free .reply .number ≡ 17 → ⊥) → auditOf whd placed free .common ≡ overlap.Apart

@@ -9,8 +9,7 @@ use Rattle.bin_section.specs.declared.section.BinSection.{BinSection}
 use Rattle.replies.specs.declared.reply.Reply.{Reply}
 use Rattle.bin_section.specs.declared.overlaps.Common.{Common}
 use Rattle.bin_section.specs.declared.overlaps.Common.the-variants as overlap
-use Rattle.bin_section.specs.Cell.{SharesCell}
-use Rattle.sections.specs.Common.{EarliestSpace}
+use Rattle.sections.specs.Common.{EarliestSpace, FirstToShare}
 use Rattle.replies.specs.Replies.{reply}
 use Rattle.cells.specs.Whole.{boxAt, Inside, AllInside, Apart, Whole, Gap}
 
@@ -23,11 +22,7 @@ pub record FirstOutside (whd : WidthHeightDepth) (boxes : List BinSection) (i : 
 -- every box lies inside, and box j is the lowest that shares a cell with an earlier one
 pub record FirstShared (whd : WidthHeightDepth) (boxes : List BinSection) (j : ℕ) : Type 0 where
   pub inside : AllInside whd boxes
-  pub below : j < length boxes
-  pub before : (i k : ℕ) → i < k → k < j → ¬ (SharesCell (boxAt boxes i) (boxAt boxes k))
-  pub earlier : ℕ
-  pub less : earlier < j
-  pub shares : SharesCell (boxAt boxes earlier) (boxAt boxes j)
+  pub first : FirstToShare boxes j
 
 -- "neither, but a cell is in no box"
 pub record CellInNoBox (whd : WidthHeightDepth) (boxes : List BinSection) : Type 0 where

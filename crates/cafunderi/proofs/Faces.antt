@@ -19,9 +19,11 @@ use Rattle.replies.proofs.Ladders.{past-all}
 use Rattle.target_bin.specs.Outcome.{CommonOutcome, outcome, withCommon}
 use Rattle.target_bin.specs.Return.{returnOf}
 use Rattle.audit.specs.Audit.{auditAnswer, auditOf}
-use Rattle.cafunderi.specs.Common.{commonAfter}
+use Rattle.joins.specs.Join.{joinOf}
+use Rattle.cafunderi.specs.Common.{commonAfter, lentAfter, inWords}
 use Rattle.cafunderi.specs.Try.{tryLengthsOk, tryOutcome}
-use Rattle.cafunderi.specs.Return.{returnWords, returnedWords, returnFace}
+use Rattle.cafunderi.specs.Return.{returnFace}
+use Rattle.cafunderi.specs.Join.{joinFace}
 use Rattle.cafunderi.specs.Audit.{auditWords, auditFace}
 
 -- two lengths that pass
@@ -65,12 +67,22 @@ module _ (answer : CommonReply) (common w : List ℕ) (r : Reply) (replied : r �
       → s ≡ sectionAt box 0
       → (after left : List ℕ)
       → withCommon (answer .common) (outcome (answer .reply) after left) ≡ returnOf chambers store id s
-      → returnWords r after left w ≡ returnFace chambers store id box common
+      → lentAfter r after left w ≡ returnFace chambers store id box common
   unfolding returnFace
   face-returned chambers store id box six s read after left e =
       rw (replied, handed)
-      (ap (λ (o : CommonOutcome). returnedWords common o) (e ∙ ap (λ (b : BinSection). returnOf chambers store id b) read)
+      (ap (λ (o : CommonOutcome). inWords common o) (e ∙ ap (λ (b : BinSection). returnOf chambers store id b) read)
       ∙ sym (past-all _ _ _ (six, tt)))
+
+  pub face-joined :
+      (chambers store : List ℕ) (id : ℕ)
+      → length common ≡ 6
+      → (after left : List ℕ)
+      → withCommon (answer .common) (outcome (answer .reply) after left) ≡ joinOf chambers store id
+      → lentAfter r after left w ≡ joinFace chambers store id common
+  unfolding joinFace
+  face-joined chambers store id six after left e =
+      rw (replied, handed) (ap (λ (o : CommonOutcome). inWords common o) e ∙ sym (past-all _ _ _ (ap not (eq-eqb (length common) 6 six), tt)))
 
   pub face-audited :
       (sides placed free : List ℕ)

@@ -1,4 +1,5 @@
 pub mod Common
 pub mod Try
 pub mod Return
+pub mod Join
 pub mod Audit

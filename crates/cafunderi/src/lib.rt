@@ -1,11 +1,13 @@
-// The C face: the five jobs for programs in other languages. include/cafunderi.h declares them.
+// The C face: the six jobs for programs in other languages. include/cafunderi.h declares them.
 // A table is a pointer and a length in words. A job that takes its tables as the C face has them is called as it stands.
 ghost use mathlib.Core.Path.{_≡_};
 ghost use Rattle.target_bin.specs.Outcome.{outcome};
 ghost use Rattle.target_bin.specs.Fresh.{freshOf};
 ghost use Rattle.rectangle_pack.specs.Pack.{packOutcome, packOf};
 ghost use Rattle.cafunderi.specs.Try.{tryOutcome, tryFace};
-ghost use Rattle.cafunderi.specs.Return.{returnWords, returnFace};
+ghost use Rattle.cafunderi.specs.Common.{lentAfter};
+ghost use Rattle.cafunderi.specs.Join.{joinFace};
+ghost use Rattle.cafunderi.specs.Return.{returnFace};
 ghost use Rattle.cafunderi.specs.Audit.{auditWords, auditFace};
 
 mod common_words;
@@ -15,6 +17,7 @@ use audit::audit_answer;
 use bin_section::BinSection;
 use bin_section::WidthHeightDepth;
 use common_words::hand_on;
+use joins::join;
 use rectangle_pack::pack;
 use replies::Reply;
 use target_bin::fresh;
@@ -60,12 +63,28 @@ pub extern "C" fn cafunderi_return(
     section: &[u32],
     common: &mut [u32],
 ) -> Reply
-    ensures { λ r. ⌜ returnWords r (now (chambers .exit)) (now (store .exit)) (now (common .exit)) ≡ returnFace (now (chambers .entry)) (now (store .entry)) id (now (section .entry)) (now (common .entry)) ⌝ }
+    ensures { λ r. ⌜ lentAfter r (now (chambers .exit)) (now (store .exit)) (now (common .exit)) ≡ returnFace (now (chambers .entry)) (now (store .entry)) id (now (section .entry)) (now (common .entry)) ⌝ }
 {
     if (section.len() != BinSection::WORDS) | (common.len() != BinSection::WORDS) {
         return Reply::new(Reply::BAD_LENGTH, 0);
     }
     let answer = return_section(chambers, store, id, BinSection::read(section, 0));
+    hand_on(answer, common)
+}
+
+#[no_mangle]
+pub extern "C" fn cafunderi_join(
+    chambers: &mut [u32],
+    store: &mut [u32],
+    id: u32,
+    common: &mut [u32],
+) -> Reply
+    ensures { λ r. ⌜ lentAfter r (now (chambers .exit)) (now (store .exit)) (now (common .exit)) ≡ joinFace (now (chambers .entry)) (now (store .entry)) id (now (common .entry)) ⌝ }
+{
+    if common.len() != BinSection::WORDS {
+        return Reply::new(Reply::BAD_LENGTH, 0);
+    }
+    let answer = join(chambers, store, id);
     hand_on(answer, common)
 }
 

@@ -35,6 +35,12 @@ module _ (boxes : List BinSection) (cx cy cz : ℕ) where
   held-some i h p =
       omega (arith, held-sum, has-in (boxAt boxes i) cx cy cz p, sum-part (length boxes) at i h)
 
+  -- and some box has a cell that is counted
+  pub held-found : 0 < held boxes cx cy cz → (i : ℕ) × (i < length boxes) × HasCell (boxAt boxes i) cx cy cz
+  held-found l =
+      let r = sum-some (length boxes) at (omega (arith, held-sum)) in
+      (r .0, r .1, has-pos (boxAt boxes (r .0)) cx cy cz (r .2))
+
   -- two boxes that have it are counted twice
   held-two : (i j : ℕ) → i < j → j < length boxes → HasCell (boxAt boxes i) cx cy cz → HasCell (boxAt boxes j) cx cy cz → 2 ≤ held boxes cx cy cz
   held-two i j l h p q =
@@ -55,9 +61,9 @@ module _ (boxes : List BinSection) (cx cy cz : ℕ) where
 
   held→one : held boxes cx cy cz ≡ 1 → InOneBox boxes cx cy cz
   held→one e =
-      let r = sum-some (length boxes) at (omega (arith, held-sum)) in
+      let r = held-found (omega arith) in
       let k = r .0 in
-      let holds : HasCell (boxAt boxes k) cx cy cz = has-pos (boxAt boxes k) cx cy cz (r .2) in
+      let holds : HasCell (boxAt boxes k) cx cy cz = r .2 in
       record {
         index = k;
         below = r .1;
@@ -84,6 +90,11 @@ pub apart-once : (boxes : List BinSection) → Apart boxes → (cx cy cz : ℕ) 
 apart-once boxes apart cx cy cz =
     held-at-most boxes cx cy cz
     (λ i j l h p q. apart .at i j l h (record { cx = cx; cy = cy; cz = cz; first = p; second = q }))
+
+-- and where no cell is, no two share one
+pub once-apart : (boxes : List BinSection) → ((cx cy cz : ℕ) → held boxes cx cy cz ≤ 1) → Apart boxes
+once-apart boxes once =
+    record { at = λ i j l h s. omega (arith, once (s .cx) (s .cy) (s .cz), held-two boxes (s .cx) (s .cy) (s .cz) i j l h (s .first) (s .second)) }
 
 -- each box lies inside, and each cell of the chamber is counted once
 pub record HeldOnce (whd : WidthHeightDepth) (boxes : List BinSection) : Type 0 where

@@ -23,11 +23,12 @@ use Rattle.target_bin.proofs.Parts.{length-partAt}
 use Rattle.bin_section.proofs.Ranges.{range→sides}
 use Rattle.audit.specs.Audit.{boxesOf, auditBoxes, boxListsOk, auditCommon, auditAnswer, shownOf, auditedWith, audited, auditOf}
 use Rattle.audit.proofs.Means.{audit-means}
-use Rattle.custody.specs.Run.{Hall, Run, fresh, packs, returns, begunWith, SameChambers, placedAt, freeCount, auditAt, AuditAccepts}
+use Rattle.custody.specs.Run.{Hall, Run, fresh, packs, returns, joins, begunWith, SameChambers, placedAt, freeCount, auditAt, AuditAccepts}
 use Rattle.custody.proofs.Between.{Good, same-then}
 use Rattle.custody.proofs.FreshStep.{fresh-good, fresh-same}
 use Rattle.custody.proofs.PackStep.{pack-good, pack-same}
 use Rattle.custody.proofs.ReturnStep.{return-good, return-same}
+use Rattle.custody.proofs.JoinStep.{join-good, join-same}
 
 -- ---- every step of a run
 
@@ -35,6 +36,7 @@ pub run-good : {hall : Hall} → Run hall → Good hall
 run-good (fresh chambers store done) = fresh-good chambers store done
 run-good (packs {hall} before rects placements) = pack-good hall (run-good before) rects placements
 run-good (returns {hall} before id box there) = return-good hall (run-good before) id box there
+run-good (joins {hall} before id) = join-good hall (run-good before) id
 
 -- ---- the audit's words
 
@@ -93,7 +95,7 @@ good-accepted f g =
 
 -- "From fresh chambers, after any packs and returns, refused ones included, with tables untouched in between and each returned box then
 -- placed in that chamber, it accepts each chamber's free sections with every box placed there and not yet taken back, up to 1,024
--- boxes."
+-- boxes." With K5 "the allowed steps become packs, returns and joins".
 pub custody : {hall : Hall} → Run hall → AuditAccepts hall
 custody {hall} run = good-accepted hall (run-good run)
 
@@ -111,3 +113,4 @@ unfolding begunWith
 chambers-stay (fresh chambers store done) = fresh-same chambers store done
 chambers-stay (packs {hall} before rects placements) = same-then (chambers-stay before) (pack-same hall (run-good before) rects placements)
 chambers-stay (returns {hall} before id box there) = same-then (chambers-stay before) (return-same hall (run-good before) id box there)
+chambers-stay (joins {hall} before id) = same-then (chambers-stay before) (join-same hall (run-good before) id)

@@ -1,40 +1,32 @@
 -- A return leaves every chamber whole: an accepted box moves from the placed ones to the free ones, a refused one changes nothing.
-use Prim.Native.Nat.{ℕ, _+_, _<_}
-use mathlib.Core.Path.{_≡_, refl, sym, ap, _∙_, subst}
-use mathlib.Core.Logic.{⊎-elim}
+use Prim.Native.Nat.{ℕ, _+_}
+use mathlib.Core.Path.{_≡_, refl, sym, _∙_, subst}
 use mathlib.Core.List.{List, [], _∷_, _++_}
 use mathlib.Core.Bool.{_&&_}
 use native.Mathlib.Decide.{ℕ-discrete}
 use native.Mathlib.Omega.{arith}
 use borrow.Author.Tests.{eq-eqb, ne-eqb}
 use lib.Dec.{eqb}
-use lib.ListN.{length, getD, set, length-set}
-use lib.Seq.{getD-set-same, getD-set-other}
 use Rattle.lists.specs.Sort.{Each, also}
 use Rattle.lists.proofs.Flags.{cond-yes, cond-no, and-both, and-no-first, and-no-second}
-use Rattle.lists.proofs.Tabs.{set-cases}
 use Rattle.bin_section.specs.declared.section.BinSection.{BinSection}
 use Rattle.bin_section.specs.declared.width_height_depth.WidthHeightDepth.{WidthHeightDepth}
-use Rattle.bin_section.specs.Sides.{sides}
 use Rattle.replies.specs.Replies.{reply}
 use Rattle.cells.specs.Whole.{Inside, Whole}
 use Rattle.cells.proofs.Grid.{has}
 use Rattle.cells.proofs.Held.{whole-same}
 use Rattle.cells.proofs.Insides.{each-inside, inside-each, inside-first, inside-second, inside-both, inside-more, inside-none}
-use Rattle.target_bin.specs.declared.chamber.TargetBin.{TargetBin}
-use Rattle.target_bin.specs.Chambers.{bin, chamberAt, chamberCount, chambersOf, chamberOf}
-use Rattle.target_bin.specs.Store.{freeAt, freeOf}
+use Rattle.target_bin.specs.Chambers.{chamberAt, chamberOf}
+use Rattle.target_bin.specs.Store.{freeAt}
 use Rattle.target_bin.specs.Outcome.{outcome, CommonOutcome, withCommon}
 use Rattle.target_bin.specs.Return.{returnOf}
-use Rattle.target_bin.proofs.Tables.{length-chambersOf, getD-chambersOf}
-use Rattle.target_bin.proofs.Parts.{length-freeOf, getD-freeOf}
-use Rattle.target_bin.proofs.ReturnModel.{Accepted, return-done, return-refusal, return-chambers, return-free, return-sound}
+use Rattle.target_bin.proofs.ReturnModel.{Accepted, return-done, return-refusal, return-changed, return-sound}
 use Rattle.custody.specs.Ledger.{In, first, later, takenOut, afterReturn}
 use Rattle.custody.specs.Run.{Hall, hallOf, takenBack, SameChambers}
 use Rattle.lists.proofs.Totals.{total, total-append}
 use Rattle.custody.proofs.Totals.{strays, none-strays, all-inside}
 use Rattle.custody.proofs.Ledgers.{taken-total}
-use Rattle.custody.proofs.Between.{Good, good-ledger, same-chambers, one-index}
+use Rattle.custody.proofs.Between.{Good, good-ledger, same-chambers, changed-good, changed-same}
 
 -- what holds of each box of a list holds of a box that stands in it
 in-list : (whd : WidthHeightDepth) (box : BinSection) {boxes : List BinSection} → In box boxes → Each (Inside whd) boxes → Inside whd box
@@ -55,40 +47,6 @@ module _ (f : Hall) (good : Good f) (id : ℕ) (box : BinSection) (there : retur
   at = chamberOf c id
 
   module _ (a : Accepted c s id box) (zero-reply : o .reply .number ≡ 0) where
-    d₀ : TargetBin
-    d₀ = bin 0 (sides 0 0 0) 0
-
-    -- the chamber with its count one more
-    abbrev one-more : TargetBin
-    one-more = bin (chamberAt c at .id) (chamberAt c at .whd) (chamberAt c at .count + 1)
-
-    many : chamberCount (o .chambers) ≡ chamberCount c
-    many =
-        sym (length-chambersOf (o .chambers)) ∙ ap length (return-chambers c s id box a) ∙ length-set (chambersOf c) at one-more ∙ length-chambersOf c
-
-    same-bin : (j : ℕ) → j < chamberCount c → (chamberAt (o .chambers) j .id ≡ chamberAt c j .id) × (chamberAt (o .chambers) j .whd ≡ chamberAt c j .whd)
-    same-bin j h =
-        let read : chamberAt (o .chambers) j ≡ getD (set (chambersOf c) at one-more) j d₀ =
-        sym (getD-chambersOf (o .chambers) j d₀ (omega (arith, many))) ∙ ap (λ (l : List TargetBin). getD l j d₀) (return-chambers c s id box a) in
-        ⊎-elim
-        (λ u.
-        let p : chamberAt (o .chambers) j ≡ chamberAt c j = read ∙ u ∙ getD-chambersOf c j d₀ h in
-        (ap (λ (b : TargetBin). b .id) p, ap (λ (b : TargetBin). b .whd) p))
-        (λ u.
-        let p : chamberAt (o .chambers) j ≡ one-more = read ∙ u .1 in
-        rw (u .0) (rw (u .0) at (ap (λ (b : TargetBin). b .id) p), rw (u .0) at (ap (λ (b : TargetBin). b .whd) p)))
-        (set-cases (chambersOf c) at one-more j d₀)
-
-    free-read : (j : ℕ) → j < chamberCount c → freeAt (o .chambers) (o .store) j ≡ getD (set (freeOf c s) at (freeAt c s at ++ (box ∷ []))) j []
-    free-read j h =
-        sym (getD-freeOf (o .chambers) (o .store) j [] (omega (arith, many))) ∙ ap (λ (l : List (List BinSection)). getD l j []) (return-free c s id box a)
-
-    free-here : freeAt (o .chambers) (o .store) at ≡ freeAt c s at ++ (box ∷ [])
-    free-here = free-read at (a .known) ∙ getD-set-same (freeOf c s) at (freeAt c s at ++ (box ∷ [])) [] (omega (arith, length-freeOf c s, a .known))
-
-    free-there : (j : ℕ) → j < chamberCount c → (j ≡ at → ⊥) → freeAt (o .chambers) (o .store) j ≡ freeAt c s j
-    free-there j h ne = free-read j h ∙ getD-set-other (freeOf c s) at j (freeAt c s at ++ (box ∷ [])) [] ne ∙ getD-freeOf c s j [] h
-
     -- the box moves from the placed ones to the free ones
     moved-whole : (whd : WidthHeightDepth) (placed free : List BinSection) → In box placed → Whole whd (placed ++ free) → Whole whd (takenOut box placed ++ (free ++ (box ∷ [])))
     unfolding total
@@ -122,27 +80,20 @@ module _ (f : Hall) (good : Good f) (id : ℕ) (box : BinSection) (there : retur
         cond-no (takenOut box (f .ledger j)) (f .ledger j) (eqb (o .reply .number) 0 && eqb id j)
         (and-no-second (eqb (o .reply .number) 0) (eqb id j) (ne-eqb _ _ (λ e. ne (sym e))))
 
-    whole-at : (j : ℕ) → j < chamberCount c → Dec (j ≡ at) → Whole (chamberAt c j .whd) (afterReturn (o .reply) id box (f .ledger) (chamberAt c j .id) ++ freeAt (o .chambers) (o .store) j)
-    whole-at j h (yes e) =
-        rw (e, a .named, ledger-here id refl, free-here)
+    whole-here : Whole (chamberAt c at .whd) (afterReturn (o .reply) id box (f .ledger) (chamberAt c at .id) ++ (freeAt c s at ++ (box ∷ [])))
+    whole-here =
+        rw (a .named, ledger-here id refl)
         (moved-whole (chamberAt c at .whd) (f .ledger id) (freeAt c s at) (there zero-reply)
         (subst (λ (m : ℕ). Whole (chamberAt c at .whd) (f .ledger m ++ freeAt c s at)) (a .named) (good .whole at (a .known))))
-    whole-at j h (no ne) =
-        rw (free-there j h ne, ledger-there (chamberAt c j .id) (λ e. ne (one-index c s (good .sound-tables) j at h (a .known) (e ∙ sym (a .named)))))
-        (good .whole j h)
 
     accepted-good : Good (takenBack f id box)
     accepted-good =
-        record {
-          sound-tables = return-sound c s id box a;
-          whole = λ j h.
-              let l : j < chamberCount c = omega (arith, many) in
-              let b = same-bin j l in
-              rw (b .0, b .1) (whole-at j l (ℕ-discrete j at));
-        }
+        changed-good f good (o .chambers) (o .store) at (freeAt c s at ++ (box ∷ [])) (a .known) (return-changed c s id box a)
+        (return-sound c s id box a) (afterReturn (o .reply) id box (f .ledger)) whole-here
+        (λ j ne. ledger-there j (λ e. ne (e ∙ sym (a .named))))
 
     accepted-same : SameChambers c (o .chambers)
-    accepted-same = record { many = many; ids = λ j h. same-bin j h .0; sides = λ j h. same-bin j h .1 }
+    accepted-same = changed-same (return-changed c s id box a)
 
   -- a refused return leaves tables and ledger as they were
   refused-ledger : (o .reply .number ≡ 0 → ⊥) → (j : ℕ) → afterReturn (o .reply) id box (f .ledger) j ≡ f .ledger j

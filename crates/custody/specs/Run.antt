@@ -1,5 +1,6 @@
 -- "From fresh chambers, after any packs and returns, refused ones included, with tables untouched in between and each returned box
--- then placed in that chamber": a run of jobs; and what the audit then says of a chamber.
+-- then placed in that chamber", and with K5 "the allowed steps become packs, returns and joins": a run of jobs; and what the audit then says
+-- of a chamber.
 use Prim.Native.Nat.{ℕ, _+_, _*_, _≤_, _<_}
 use mathlib.Core.Path.{_≡_}
 use mathlib.Core.List.{List, []}
@@ -11,6 +12,7 @@ use Rattle.target_bin.specs.Chambers.{chamberAt, chamberCount}
 use Rattle.target_bin.specs.Store.{partAt}
 use Rattle.target_bin.specs.Fresh.{freshOf}
 use Rattle.target_bin.specs.Return.{returnOf}
+use Rattle.joins.specs.Join.{joinOf}
 use Rattle.rectangle_pack.specs.Pack.{packOf}
 use Rattle.audit.specs.Audit.{Audited, audited, auditOf}
 use Rattle.custody.specs.Ledger.{Ledger, nothing, afterPack, In, afterReturn}
@@ -24,7 +26,7 @@ pub record Hall : Type 0 where
 abbrev pub hallOf : List ℕ → List ℕ → Ledger → Hall
 hallOf chambers store ledger = record { chambers = chambers; store = store; ledger = ledger }
 
--- what fresh, a pack and a return leave: each job's own outcome, and the ledger by its reply and records. The next job is lent the tables
+-- what fresh, a pack, a return and a join leave: each job's own outcome, and the ledger by its reply and records. The next job is lent the tables
 -- as they lie: "with tables untouched in between".
 abbrev pub freshHall : List ℕ → List ℕ → Hall
 freshHall chambers store = let o = freshOf chambers store in hallOf (o .chambers) (o .store) nothing
@@ -39,6 +41,10 @@ takenBack hall id box =
     let o = returnOf (hall .chambers) (hall .store) id box in
     hallOf (o .chambers) (o .store) (afterReturn (o .reply) id box (hall .ledger))
 
+-- a join places nothing and takes nothing back
+abbrev pub joinedUp : Hall → ℕ → Hall
+joinedUp hall id = let o = joinOf (hall .chambers) (hall .store) id in hallOf (o .chambers) (o .store) (hall .ledger)
+
 pub data Run : Hall → Type 0 where
   -- "From fresh chambers": any tables on which fresh answers 0
   fresh : (chambers store : List ℕ) → freshOf chambers store .reply .number ≡ 0 → Run (freshHall chambers store)
@@ -51,12 +57,15 @@ pub data Run : Hall → Type 0 where
       → (id : ℕ) (box : BinSection)
       → (returnOf (hall .chambers) (hall .store) id box .reply .number ≡ 0 → In box (hall .ledger id))
       → Run (takenBack hall id box)
+  -- "packs, returns and joins": any id, any answer
+  joins : {hall : Hall} → Run hall → (id : ℕ) → Run (joinedUp hall id)
 
 -- the chamber table that the run began with
 unfoldable pub begunWith : {hall : Hall} → Run hall → List ℕ
 begunWith (fresh chambers store done) = chambers
 begunWith (packs before rects placements) = begunWith before
 begunWith (returns before id box there) = begunWith before
+begunWith (joins before id) = begunWith before
 
 -- two tables have the same chambers: as many, and each with its id and its sides
 pub record SameChambers (a b : List ℕ) : Type 0 where

@@ -1,1 +1,1 @@
-// From fresh chambers, after any packs and returns: no cell is lost and none is given out twice. No code stands here.
+// From fresh chambers, after any packs, returns and joins: no cell is lost and none is given out twice. No code stands here.

@@ -1,5 +1,5 @@
 -- The words that the rows of the table are written in.
-use Prim.Native.Nat.{ℕ, zero, suc, _*_}
+use Prim.Native.Nat.{ℕ, zero, suc, _*_, _-_}
 use mathlib.Core.List.{List, [], _∷_, _++_, map}
 use lib.ListN.{length, replicate}
 use Rattle.replies.specs.declared.reply.Reply.{Reply}
@@ -16,14 +16,17 @@ use Rattle.placement.specs.Placements.{placementWidth}
 use Rattle.target_bin.specs.Outcome.{outcome, withCommon}
 use Rattle.rectangle_pack.specs.Pack.{packOutcome}
 use Rattle.examples.specs.Shown.{LentTables, freshShown}
-use Rattle.examples.specs.Job.{Job, tries, returns, packs, replies, audits, Answer, ofTry, ofReturn, ofPack, ofReply, ofAudit}
+use Rattle.examples.specs.Job.{Job, tries, returns, joins, packs, replies, audits, Answer, ofTry, ofReturn, ofJoin, ofPack, ofReply, ofAudit}
 
 infix 80 _by_by_
 infix 80 _detail_
 infix 75 _free_
+infix 74 _past_
 infix 70 split_ties_volumes_appended_
 infix 70 returned_leaving_
 infix 70 returned_sharing_leaving_
+infix 70 joined_leaving_
+infix 70 joined_sharing_leaving_
 infix 70 packed_placements_leaving_
 infix 70 audited_shown_sum_
 infix 70 audited_sharing_shown_sum_
@@ -132,6 +135,33 @@ returned r leaving cs = ofReturn (withCommon Apart (outcome r (tablesOf cs .cham
 -- with the common box that is handed on
 abbrev pub returned_sharing_leaving_ : Reply → BinSection → List WithFree → Answer
 returned r sharing b leaving cs = ofReturn (withCommon (Shared b) (outcome r (tablesOf cs .chambers) (tablesOf cs .store)))
+
+-- ---- a join in the chamber that has the id, and both tables afterwards
+
+-- a chamber with its free sections, and the word that stands everywhere past its count
+pub record WithPast : Type 0 where
+  pub chamber : WithFree
+  pub word : ℕ
+
+abbrev pub _past_ : WithFree → ℕ → WithPast
+c past word = record { chamber = c; word = word }
+
+abbrev pub pastTables : List WithPast → LentTables
+pastTables cs =
+    record {
+      chambers = joined (λ (c : WithPast). chamberWords (c .chamber .chamber) (length (c .chamber .sections))) cs;
+      store = joined (λ (c : WithPast). allWords (c .chamber .sections) ++ replicate (768 - length (c .chamber .sections) * 6) (c .word)) cs;
+    }
+
+abbrev pub join : List WithPast → ℕ → Job
+join cs = joins (pastTables cs)
+
+abbrev pub joined_leaving_ : Reply → List WithPast → Answer
+joined r leaving cs = ofJoin (withCommon Apart (outcome r (pastTables cs .chambers) (pastTables cs .store)))
+
+-- with the common box that is handed on
+abbrev pub joined_sharing_leaving_ : Reply → BinSection → List WithPast → Answer
+joined r sharing b leaving cs = ofJoin (withCommon (Shared b) (outcome r (pastTables cs .chambers) (pastTables cs .store)))
 
 -- ---- a pack of coils, and all tables afterwards
 

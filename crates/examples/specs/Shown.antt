@@ -35,6 +35,9 @@ use Rattle.target_bin.specs.Store.{partAt, freeAt, freeOf, partOf}
 use Rattle.target_bin.specs.Outcome as tables
 use Rattle.target_bin.specs.Fresh.{freshTable, freshStore, freshOf}
 use Rattle.target_bin.specs.Return as ret
+use Rattle.neighbours.specs.Neighbour.{spansEqual, spansTouch, joinsOf, joinedSide, joinedBox}
+use Rattle.neighbours.specs.Joining.{joinsWith, joinsLater, someJoin, pairOf, joinedAt, joinFrom, joinAll}
+use Rattle.joins.specs.Join as joining
 use Rattle.packing_rules.specs.Rules.{placeFrom, placeOne, placeAll, placeGroup}
 use Rattle.grouped_rects_to_place.specs.Rect.{rectAt}
 use Rattle.grouped_rects_to_place.specs.Checks.{badRect, repeatedId}
@@ -83,13 +86,20 @@ tryShown r s =
       appended = appendedOf (t .sections);
     }
 
--- ---- a return and a pack: all that they leave, as the rules say it
+-- ---- a return, a join and a pack: all that they leave, as the rules say it
 
 unfoldable pub returnShown : LentTables → ℕ → BinSection → tables.CommonOutcome
 unfolding lowest anyBelow put inOrder sectionAt spansMeet overlapsOf commonSide commonBox commonOf spanInside insideOf sideOk joined
     chamberAt lengthsOk idOk shapeOk chamberOk badSections partAt partOf chamberOf
     ret.pushChecks ret.returnChecks ret.returned ret.returnOutcome ret.returnCommon ret.returnOf
 returnShown t id box = ret.returnOf (t .chambers) (t .store) id box
+
+unfoldable pub joinShown : LentTables → ℕ → tables.CommonOutcome
+unfolding lowest anyBelow tab removeAt put inOrder sectionAt sections spansMeet overlapsOf commonSide commonBox commonOf spanInside insideOf sideOk joined
+    chamberAt lengthsOk idOk shapeOk chamberOk badSections partAt freeAt partOf chamberOf sharesEarlier firstCommon earliestCommon
+    spansEqual spansTouch joinsOf joinedSide joinedBox joinsWith joinsLater someJoin pairOf joinedAt joinFrom joinAll
+    joining.shareChecks joining.joinChecks joining.joinDone joining.joinOutcome joining.joinCommon joining.joinOf
+joinShown t id = joining.joinOf (t .chambers) (t .store) id
 
 unfoldable pub packShown : LentTables → List ℕ → List ℕ → PackOutcome
 unfolding lowest anyBelow picked sumTo tab removeAt inOrder sectionAt spanInside insideOf sideOk sections joined

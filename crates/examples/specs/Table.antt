@@ -1,4 +1,4 @@
--- P1 to P12 and the examples of room: one table, one statement. `Rows` has the words of its rows.
+-- P1 to P12, the examples of room and those of a join: one table, one statement. `Rows` has the words of its rows.
 use mathlib.Core.Path.{_≡_, refl}
 use mathlib.Core.List.{List, [], _∷_, map}
 use Rattle.examples.specs.Job.{answered}
@@ -23,6 +23,10 @@ use Rattle.examples.specs.Rows.{
   return,
   returned_leaving_,
   returned_sharing_leaving_,
+  _past_,
+  join,
+  joined_leaving_,
+  joined_sharing_leaving_,
   pack,
   packed_placements_leaving_,
   packReply,
@@ -66,6 +70,33 @@ table =
     -- P9: "10x10x1 with no free section, return (8,0,0;5,1,1): 9"
     ∷ return (tablesOf (chamber 1 (10 by 10 by 1) free [] ∷ [])) 1 (box 8 0 0 5 1 1)
     gives returned (9 detail 0) leaving (chamber 1 (10 by 10 by 1) free [] ∷ [])
+    -- a join of two halves. The words past the chamber's count become 0, the other chamber stays, though its sections would join too
+    ∷ join
+    (chamber 1 (10 by 10 by 1) free (box 4 0 0 6 10 1 ∷ box 0 0 0 4 10 1 ∷ []) past 9
+    ∷ chamber 2 (2 by 1 by 1) free (box 0 0 0 1 1 1 ∷ box 1 0 0 1 1 1 ∷ []) past 9
+    ∷ [])
+    1
+    gives joined (0 detail 1)
+    leaving (chamber 1 (10 by 10 by 1) free (box 0 0 0 10 10 1 ∷ []) past 0 ∷ chamber 2 (2 by 1 by 1) free (box 0 0 0 1 1 1 ∷ box 1 0 0 1 1 1 ∷ []) past 9 ∷ [])
+    -- two that touch on an edge alone, and one that is less high than its neighbour: no join, but the words past the count become 0
+    ∷ join (chamber 1 (10 by 10 by 1) free (box 0 0 0 5 5 1 ∷ box 5 5 0 5 5 1 ∷ box 5 0 0 5 4 1 ∷ []) past 9 ∷ []) 1
+    gives joined (0 detail 0) leaving (chamber 1 (10 by 10 by 1) free (box 0 0 0 5 5 1 ∷ box 5 5 0 5 5 1 ∷ box 5 0 0 5 4 1 ∷ []) past 0 ∷ [])
+    -- after the second and third were joined the search begins again, and the first joins with them; had it gone on, the fourth would be taken
+    ∷ join (chamber 1 (3 by 2 by 1) free (box 0 0 0 2 1 1 ∷ box 0 1 0 1 1 1 ∷ box 1 1 0 1 1 1 ∷ box 2 1 0 1 1 1 ∷ []) past 9 ∷ []) 1
+    gives joined (0 detail 2) leaving (chamber 1 (3 by 2 by 1) free (box 0 0 0 2 2 1 ∷ box 2 1 0 1 1 1 ∷ []) past 0 ∷ [])
+    -- "the lowest first index": the first with the fourth, before the second with the third
+    ∷ join (chamber 1 (3 by 2 by 1) free (box 0 0 0 2 1 1 ∷ box 0 1 0 1 1 1 ∷ box 1 1 0 1 1 1 ∷ box 2 0 0 1 1 1 ∷ []) past 9 ∷ []) 1
+    gives joined (0 detail 2) leaving (chamber 1 (3 by 2 by 1) free (box 0 0 0 3 1 1 ∷ box 0 1 0 2 1 1 ∷ []) past 0 ∷ [])
+    -- "then the lowest second": the first could join with the second or with the third
+    ∷ join (chamber 1 (9 by 9 by 1) free (box 0 0 0 4 4 1 ∷ box 4 0 0 4 4 1 ∷ box 0 4 0 4 4 1 ∷ []) past 9 ∷ []) 1
+    gives joined (0 detail 1) leaving (chamber 1 (9 by 9 by 1) free (box 0 0 0 8 4 1 ∷ box 0 4 0 4 4 1 ∷ []) past 0 ∷ [])
+    -- 10: the third shares a cell with both before it, and the fourth with the first; the detail is the third's index, and the space is that with the
+    -- earliest. 8: no chamber has the id
+    ∷ join (chamber 1 (10 by 10 by 1) free (box 0 0 0 5 5 1 ∷ box 5 0 0 5 5 1 ∷ box 4 4 0 2 2 1 ∷ box 0 0 0 1 1 1 ∷ []) past 9 ∷ []) 1
+    gives joined (10 detail 2) sharing (box 4 4 0 1 1 1)
+    leaving (chamber 1 (10 by 10 by 1) free (box 0 0 0 5 5 1 ∷ box 5 0 0 5 5 1 ∷ box 4 4 0 2 2 1 ∷ box 0 0 0 1 1 1 ∷ []) past 9 ∷ [])
+    ∷ join (chamber 1 (2 by 1 by 1) free (box 0 0 0 1 1 1 ∷ box 1 0 0 1 1 1 ∷ []) past 9 ∷ []) 2
+    gives joined (8 detail 0) leaving (chamber 1 (2 by 1 by 1) free (box 0 0 0 1 1 1 ∷ box 1 0 0 1 1 1 ∷ []) past 9 ∷ [])
     -- P10: "2x2x1 with (0,0,0;2,1,1) and (0,0,0;1,2,1): 17, detail 1, though the volumes sum to 4."
     ∷ audit (2 by 2 by 1) (box 0 0 0 2 1 1 ∷ box 0 0 0 1 2 1 ∷ []) [] gives audited (17 detail 1) sharing (box 0 0 0 1 1 1) shown (box 0 0 0 1 2 1 ∷ []) sum 4
     ∷ audit (2 by 2 by 1) (box 0 0 0 2 1 1 ∷ []) (box 0 0 0 1 2 1 ∷ []) gives audited (17 detail 1) sharing (box 0 0 0 1 1 1) shown (box 0 0 0 1 2 1 ∷ []) sum 4

@@ -1,5 +1,6 @@
 -- Laws of tests that are joined: and, or, not, and what a chosen case is.
 use mathlib.Core.Path.{_≡_, refl, sym}
+use mathlib.Core.Logic.{_⊎_, inl, inr}
 use mathlib.Core.Bool.{Bool, true, false, not, _&&_, _||_, cond}
 use Prim.Native.Nat.{ℕ}
 use native.Mathlib.Omega.{arith}
@@ -48,6 +49,23 @@ or-first false b p = refl
 pub or-second : (a b : Bool) → (a || b) ≡ false → b ≡ false
 or-second true b p = absurd (true-false p)
 or-second false b p = p
+
+pub or-some : (a b : Bool) → (a || b) ≡ true → (a ≡ true) ⊎ (b ≡ true)
+or-some true b p = inl refl
+or-some false b p = inr p
+
+pub or-left : (a b : Bool) → a ≡ true → (a || b) ≡ true
+or-left a b e = rw e
+
+pub or-right : (a b : Bool) → b ≡ true → (a || b) ≡ true
+or-right true b e = refl
+or-right false b e = e
+
+-- two tests that fire together
+pub same-flags : (a b : Bool) → (a ≡ true → b ≡ true) → (b ≡ true → a ≡ true) → a ≡ b
+same-flags true b f g = sym (f refl)
+same-flags false true f g = g refl
+same-flags false false f g = refl
 
 pub or-false : (a : Bool) → (a || false) ≡ a
 or-false true = refl

@@ -5,7 +5,7 @@ use mathlib.Core.List.{List, [], _∷_, _++_, map}
 use mathlib.Core.Bool.{Bool, true, false, cond}
 use native.Mathlib.Nat.{not-suc-le-zero, le-of-suc-le-suc}
 use native.Mathlib.Omega.{arith}
-use lib.ListN.{length, getD}
+use lib.ListN.{length, getD, set}
 use Rattle.lists.specs.Pick.{picked}
 use Rattle.lists.specs.Sort.{Permuted, empty, keep, swap, chain}
 use Rattle.lists.specs.Sum.{sumTo}
@@ -36,6 +36,13 @@ module _ {A : Type 0} (w : A → ℕ) where
   total-removed i d [] h = absurd (not-suc-le-zero h)
   total-removed zero d (x ∷ xs) h = refl
   total-removed (suc i) d (x ∷ xs) h = omega (arith, total-removed i d xs (le-of-suc-le-suc h))
+
+  -- one element changed
+  pub total-set : (i : ℕ) (v d : A) (xs : List A) → i < length xs → total w (set xs i v) + w (getD xs i d) ≡ total w xs + w v
+  unfolding total
+  total-set i v d [] h = absurd (not-suc-le-zero h)
+  total-set zero v d (x ∷ xs) h = omega arith
+  total-set (suc i) v d (x ∷ xs) h = omega (arith, total-set i v d xs (le-of-suc-le-suc h))
 
   -- index by index
   pub total-sum : (d : A) (xs : List A) → total w xs ≡ sumTo (length xs) (λ i. w (getD xs i d))

@@ -1,5 +1,6 @@
 // Answers the oracle's jobs: reads each from standard input and writes its answer to standard output.
 // The format of jobs and answers is the wire format of oracle/README.md. It ends with the input, or at a job that is none.
+mod join_job;
 mod pack_job;
 mod places;
 mod return_job;
@@ -24,6 +25,8 @@ const TRY: u32 = 1;
 const RETURN: u32 = 2;
 
 const PACK: u32 = 3;
+
+const JOIN: u32 = 4;
 
 fn main() {
     let mut bytes = [0u8; MOST_BYTES];
@@ -142,6 +145,15 @@ fn answer_tables(
     let sections = c * TargetBin::STORE;
     if job[0] == RETURN {
         return return_job::answer(
+            job,
+            &mut chambers[0..words],
+            &mut store[0..sections],
+            c,
+            answer,
+        );
+    }
+    if job[0] == JOIN {
+        return join_job::answer(
             job,
             &mut chambers[0..words],
             &mut store[0..sections],

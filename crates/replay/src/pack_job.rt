@@ -6,6 +6,8 @@ use crate::places::mark;
 use crate::places::put_part;
 use crate::places::wide;
 use crate::tables::MARK;
+use crate::tables::NONE;
+use crate::tables::Past;
 use crate::tables::put_reply;
 use crate::tables::put_tables;
 use crate::tables::take_tables;
@@ -97,7 +99,10 @@ fn put_packed(
     requires { ⌜ (c ≤ 16) × (length (now chambers) ≡ c * 5) × (length (now store) ≡ c * 768) × (length (now answer) ≡ 16384) ⌝ }
     ensures { λ m. ⌜ m ≤ 16384 ⌝ }
 {
-    let wanted = past_counts(reply.number);
+    let wanted = Past {
+        word: past_counts(reply.number),
+        cleared: NONE,
+    };
     let placed = put_reply(answer, reply);
     let tables = put_part(answer, placed, placements.len(), placements, 0);
     put_tables(answer, tables, chambers, store, c, wanted)

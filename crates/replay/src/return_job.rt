@@ -2,9 +2,10 @@
 ghost use mathlib.Core.Path.{_≡_};
 ghost use Prim.Native.Nat.{_*_, _≤_};
 ghost use lib.ListN.{length};
-use crate::places::put_part;
 use crate::tables::MARK;
-use crate::tables::put_reply;
+use crate::tables::NONE;
+use crate::tables::Past;
+use crate::tables::put_answered;
 use crate::tables::put_tables;
 use crate::tables::take_tables;
 use bin_section::BinSection;
@@ -35,7 +36,11 @@ pub fn answer(
     let end = job.len();
     let answered = returned(&job[place..end], chambers, store);
     let tables = put_answered(answer, answered);
-    put_tables(answer, tables, chambers, store, c, MARK)
+    let wanted = Past {
+        word: MARK,
+        cleared: NONE,
+    };
+    put_tables(answer, tables, chambers, store, c, wanted)
 }
 
 fn returned(words: &[u32], chambers: &mut [u32], store: &mut [u32]) -> CommonReply
@@ -44,15 +49,4 @@ fn returned(words: &[u32], chambers: &mut [u32], store: &mut [u32]) -> CommonRep
     let id = words[0];
     let section = BinSection::read(&words[1..7], 0);
     return_section(chambers, store, id, section)
-}
-
-// Puts reply and detail, then the six words of the common box. The next place, or 0.
-fn put_answered(answer: &mut [u32], answered: CommonReply) -> usize
-    ensures { λ r. ⌜ r ≤ length (now (answer .entry)) ⌝ }
-{
-    let place = put_reply(answer, answered.reply);
-    let common = answered.common;
-    let mut words = [0u32; BinSection::WORDS];
-    common.write(&mut words);
-    put_part(answer, place, BinSection::WORDS, &words, 0)
 }

@@ -1,4 +1,4 @@
-// The tables of a return and of a pack: taken from the job, marked before it, put to the answer after it.
+// The tables of a return, a join and a pack: taken from the job, marked before it, put to the answer after it.
 ghost use mathlib.Core.Path.{_≡_};
 ghost use Prim.Native.Nat.{_+_, _*_, _≤_, _<_};
 ghost use lib.ListN.{length};
@@ -9,10 +9,26 @@ use crate::places::put_word;
 use crate::places::take_words;
 use bin_section::BinSection;
 use replies::Reply;
+use sections::CommonReply;
 use target_bin::TargetBin;
 
 // What stands in the store past the counts before a job.
 pub const MARK: u32 = 0xdead_beef;
+// No chamber's index: that of a chamber past the last.
+pub const NONE: usize = TargetBin::MOST;
+
+// What has to stand in the store past the counts after a job: 0 in the chamber at index `cleared`, one word in all others.
+pub struct Past {
+    pub word: u32,
+    pub cleared: usize,
+}
+
+impl Past {
+    fn at(self, k: usize) -> u32 {
+        if k == self.cleared { 0 } else { self.word }
+    }
+}
+
 // The tables follow the kind and the number of chambers.
 const TABLES: usize = 2;
 // The answer's first word is its length.
@@ -63,6 +79,17 @@ pub fn put_reply(answer: &mut [u32], reply: Reply) -> usize
     put_word(answer, place, reply.detail)
 }
 
+// Puts reply and detail, then the six words of the common box. The next place, or 0.
+pub fn put_answered(answer: &mut [u32], answered: CommonReply) -> usize
+    ensures { λ r. ⌜ r ≤ length (now (answer .entry)) ⌝ }
+{
+    let place = put_reply(answer, answered.reply);
+    let common = answered.common;
+    let mut words = [0u32; BinSection::WORDS];
+    common.write(&mut words);
+    put_part(answer, place, BinSection::WORDS, &words, 0)
+}
+
 // Puts the tables and the number of stray words, and the length before all. The words of the answer, or 0.
 pub fn put_tables(
     answer: &mut [u32],
@@ -70,7 +97,7 @@ pub fn put_tables(
     chambers: &[u32],
     store: &[u32],
     c: usize,
-    wanted: u32,
+    wanted: Past,
 ) -> usize
     requires { ⌜ (place ≤ length (now answer)) × (length (now answer) ≤ 65536) × (c ≤ 16) × (length (now chambers) ≡ c * 5) × (length (now store) ≡ c * 768) ⌝ }
     ensures { λ r. ⌜ r ≤ length (now (answer .entry)) ⌝ }
@@ -101,13 +128,13 @@ fn put_sections(
     place
 }
 
-// How many words of the store past the counts are not the wanted one.
-fn count_stray(chambers: &[u32], store: &[u32], c: usize, wanted: u32) -> u32
+// How many words of the store past the counts are not the wanted ones.
+fn count_stray(chambers: &[u32], store: &[u32], c: usize, wanted: Past) -> u32
     requires { ⌜ (c ≤ 16) × (c * 5 ≤ length (now chambers)) × (c * 768 ≤ length (now store)) ⌝ }
 {
     let mut stray = 0;
     for k in 0..c {
-        stray += count_stray_in(chambers, store, k, wanted);
+        stray += count_stray_in(chambers, store, k, wanted.at(k));
     }
     stray as u32
 }

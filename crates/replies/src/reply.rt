@@ -29,7 +29,7 @@ impl Reply {
     pub const NO_CHAMBER: u32 = 8;
     // The returned box has a zero side or reaches past the chamber.
     pub const NOT_CONTAINED: u32 = 9;
-    // A free section shares a cell with the returned box.
+    // A free section shares a cell with the returned box; of a join, with an earlier free section.
     pub const OVERLAPS: u32 = 10;
     // 128 sections are there.
     pub const FULL: u32 = 11;

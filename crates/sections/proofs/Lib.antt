@@ -2,3 +2,4 @@ pub mod Reading
 pub mod Moves
 pub mod Nearing
 pub mod Searching
+pub mod Earlier

@@ -29,6 +29,14 @@ pub record EarliestSpace (boxes : List BinSection) (box : BinSection) (i : ℕ) 
   pub meets : SharesCell (boxAt boxes i) box
   pub space : CommonMeans (boxAt boxes i) box common
 
+-- "a box shares a cell with an earlier one": the box at j is the first of the list that does
+pub record FirstToShare (boxes : List BinSection) (j : ℕ) : Type 0 where
+  pub below : j < length boxes
+  pub before : (i k : ℕ) → i < k → k < j → ¬ (SharesCell (boxAt boxes i) (boxAt boxes k))
+  pub earlier : ℕ
+  pub less : earlier < j
+  pub shares : SharesCell (boxAt boxes earlier) (boxAt boxes j)
+
 -- a reply, and the common box that is handed on "beside the detail"
 abbrev pub commonReply : Reply → Common → CommonReply
 commonReply r c = record { reply = r; common = c }

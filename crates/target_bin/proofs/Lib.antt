@@ -3,6 +3,8 @@ pub mod Parts
 pub mod Checking
 pub mod Passing
 pub mod Freshening
+pub mod Jobs
 pub mod Returning
 pub mod FreshModel
+pub mod Changing
 pub mod ReturnModel

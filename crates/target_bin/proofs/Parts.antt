@@ -15,6 +15,7 @@ use Rattle.sections.specs.Leaning.{ZeroPast}
 use Rattle.words.proofs.Records.{joined-take, joined-part}
 use Rattle.sections.proofs.Reading.{decoded, length-sections, length-allWords}
 use Rattle.sections.proofs.Moves.{part-words}
+use Rattle.target_bin.specs.declared.chamber.TargetBin.{TargetBin}
 use Rattle.target_bin.specs.Chambers.{chamberAt, chamberCount}
 use Rattle.target_bin.specs.Store.{partAt, freeAt, freeOf, partOf, storeOf}
 use Rattle.target_bin.specs.Leaning.{OnlyIn, ChangedIn, Counted, Shaped}
@@ -84,6 +85,14 @@ part-room w c n h room = rw (lent-part w c) (omega (arith, length-partAt w c roo
 -- what is left of the store when a chamber's part comes back as ys
 pub came-back : (w ys : List ℕ) (c : ℕ) → length ys ≡ 768 → putMid (c * 768) (c * 768 + 768 - c * 768) w ys ≡ put w (c * 768) ys
 came-back w ys c long = lent w ys (c * 768) (c * 768 + 768 - c * 768) (omega arith)
+
+-- a chamber of shaped tables: its part is in the store, and its count, as it was read
+module _ (chambers store : List ℕ) (k : ℕ) (shaped : Shaped chambers store) (h : k < chamberCount chambers) where
+  pub part-in : (k + 1) * 768 ≤ length store
+  part-in = omega (arith, shaped .long)
+
+  pub count-in : (b : TargetBin) → b ≡ chamberAt chambers k → b .count ≤ 128
+  count-in b read = omega (arith, ap (λ (x : TargetBin). x .count) read, shaped .counted .counts k h)
 
 -- ---- the store read and written
 

@@ -1,13 +1,13 @@
 -- Laws of the chamber table: one record in the words, and that reading and writing are each other's inverse.
-use Prim.Native.Nat.{ℕ, _+_, _*_, _/_, _≤_, _<_}
-use mathlib.Core.Path.{_≡_, refl, ap, _∙_}
+use Prim.Native.Nat.{ℕ, _+_, _*_, _≤_, _<_}
+use mathlib.Core.Path.{_≡_, refl, _∙_}
 use mathlib.Core.List.{List}
 use native.Mathlib.Nat.{add-zero}
 use native.Mathlib.Omega.{arith}
-use lib.ListN.{length, getD, set, length-set}
+use lib.ListN.{length, getD, set}
 use lib.Seq.{getD-set-same, getD-set-other, take-all}
 use Rattle.lists.specs.Tab.{tab}
-use Rattle.lists.proofs.Tabs.{length-tab, getD-tab, tab-set, middle}
+use Rattle.lists.proofs.Tabs.{length-tab, getD-tab, middle}
 use Rattle.words.proofs.Records.{Layout, length-joined, encoded, at-joined}
 use Rattle.bin_section.specs.Sides.{sides}
 use Rattle.target_bin.specs.declared.chamber.TargetBin.{TargetBin}
@@ -62,11 +62,3 @@ module _ (w : List ℕ) (k v : ℕ) (fits : k * 5 + 5 ≤ length w) where
   pub chamberAt-set-other : (i : ℕ) → (i ≡ k → ⊥) → chamberAt (set w (k * 5 + 4) v) i ≡ chamberAt w i
   chamberAt-set-other i ne =
       chamber-layout .ext (set w (k * 5 + 4) v) w i i (λ m h. getD-set-other w (k * 5 + 4) (i * 5 + m) v 0 (λ e. ne (omega arith)))
-
-  -- the chambers are as before, but for that count
-  pub chambers-set : chambersOf (set w (k * 5 + 4) v) ≡ set (chambersOf w) k (bin (chamberAt w k .id) (chamberAt w k .whd) v)
-  unfolding chambersOf
-  chambers-set =
-      ap (λ (n : ℕ). tab (n / 5) (chamberAt (set w (k * 5 + 4) v))) (length-set w (k * 5 + 4) v)
-      ∙ tab-set (chamberCount w) (chamberAt w) (chamberAt (set w (k * 5 + 4) v)) k (bin (chamberAt w k .id) (chamberAt w k .whd) v)
-      (omega arith) chamberAt-set-same chamberAt-set-other

@@ -1,4 +1,4 @@
--- Checks 1, 2 and 3. Fresh makes 1 and 2 without the counts; pack and return make all three first.
+-- Checks 1, 2 and 3, and 8. Fresh makes 1 and 2 without the counts; pack makes all three first; a job on one chamber makes 8 after them.
 use Prim.Native.Nat.{ℕ, zero, suc, _*_, _%_}
 use mathlib.Core.List.{List, [], _∷_}
 use mathlib.Core.Bool.{Bool, true, _&&_, not}
@@ -9,7 +9,7 @@ use Rattle.bin_section.specs.Sides.{sidesOk}
 use Rattle.replies.specs.declared.reply.Reply.{Reply}
 use Rattle.replies.specs.Replies.{Check, once, each, reply}
 use Rattle.sections.specs.Inside.{outsideAt}
-use Rattle.target_bin.specs.Chambers.{chamberAt, chamberCount}
+use Rattle.target_bin.specs.Chambers.{chamberAt, chamberCount, hasId}
 use Rattle.target_bin.specs.Store.{partAt}
 
 -- 1: "Chamber record, 5 words", "At most 16", "Store: exactly 768 words a chamber"
@@ -62,3 +62,7 @@ check3 chambers store = each (reply 3) (chamberCount chambers) (badSections cham
 -- "Checks go in this order, each over the whole table before the next."
 abbrev pub tableChecks : List ℕ → List ℕ → List (Check Reply)
 tableChecks chambers store = check1 chambers store ∷ check2 chambers ∷ check3 chambers store ∷ []
+
+-- 8: "no chamber has the id"
+abbrev pub check8 : List ℕ → ℕ → Check Reply
+check8 chambers id = once (reply 8 0) (not (anyBelow (chamberCount chambers) (hasId chambers id)))

@@ -4,7 +4,6 @@ use mathlib.Core.List.{List, [], _∷_, _++_}
 use mathlib.Core.Bool.{not, cond}
 use lib.ListN.{set}
 use lib.Dec.{eqb}
-use Rattle.lists.specs.Lowest.{anyBelow}
 use Rattle.lists.specs.Tab.{put}
 use Rattle.bin_section.specs.declared.section.BinSection.{BinSection}
 use Rattle.bin_section.specs.declared.overlaps.Common.{Common}
@@ -16,9 +15,9 @@ use Rattle.replies.specs.Replies.{Check, reply, once, each, inOrder}
 use Rattle.bin_section.specs.Inside.{insideOf}
 use Rattle.sections.specs.Inside.{sharesAt}
 use Rattle.target_bin.specs.declared.chamber.TargetBin.{TargetBin}
-use Rattle.target_bin.specs.Chambers.{chamberAt, chamberCount, hasId, chamberOf}
+use Rattle.target_bin.specs.Chambers.{chamberAt, chamberOf}
 use Rattle.target_bin.specs.Store.{partAt}
-use Rattle.target_bin.specs.Checks.{tableChecks}
+use Rattle.target_bin.specs.Checks.{tableChecks, check8}
 use Rattle.target_bin.specs.Outcome.{Outcome, outcome, refused, CommonOutcome, withCommon}
 
 -- 9: "box has a zero side or reaches past the chamber"; 10: "a free section shares a cell with the box"; 11: "128 sections are there"
@@ -29,8 +28,7 @@ pushChecks b part box =
 -- 8: "no chamber has the id"; then 9, 10, 11 for the chamber that has it
 unfoldable pub returnChecks : List ℕ → List ℕ → ℕ → BinSection → List (Check Reply)
 returnChecks chambers store id box =
-    once (reply 8 0) (not (anyBelow (chamberCount chambers) (hasId chambers id)))
-    ∷ pushChecks (chamberAt chambers (chamberOf chambers id)) (partAt store (chamberOf chambers id)) box
+    check8 chambers id ∷ pushChecks (chamberAt chambers (chamberOf chambers id)) (partAt store (chamberOf chambers id)) box
 
 -- "An accepted return writes one count and the six words after the last section, nothing else", at chamber k of count n
 abbrev pub stored : List ℕ → List ℕ → ℕ → ℕ → BinSection → Outcome

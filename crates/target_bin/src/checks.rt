@@ -1,4 +1,4 @@
-// Checks 1 to 3, and the chamber of an id. Fresh makes 1 and 2 without the counts; pack and return make all three first.
+// Checks 1 to 3, and the chamber of an id. Fresh makes 1 and 2 without the counts; pack, return and join make all three first.
 ghost use mathlib.Core.Path.{_≡_};
 ghost use mathlib.Core.Bool.{cond};
 ghost use Prim.Native.Nat.{_+_, _*_, _≤_};

@@ -7,5 +7,6 @@ mod returns;
 
 pub use chamber::TargetBin;
 pub use checks::check_tables;
+pub use checks::find_chamber;
 pub use freshen::fresh;
 pub use returns::return_section;

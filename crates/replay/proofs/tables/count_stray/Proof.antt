@@ -10,5 +10,5 @@ abbrev μ-loop : it.Tie.MeasureT-loop
 pub count-stray-spec : {M : Type 1} → it.Statement.statement M
 count-stray-spec =
     it.Tie.close
-    (it.Tie.spec Inv-loop μ-loop (λ c. search needs) (λ c κs. search needs) (λ c. search needs) (λ c. search needs)
+    (it.Tie.spec Inv-loop μ-loop (λ c. search needs) (λ c κs. search needs) (λ c κs. search needs) (λ c. search needs) (λ c. search needs)
     (λ c. search needs) (λ c. search needs) (λ c. search needs) (λ c. search needs))

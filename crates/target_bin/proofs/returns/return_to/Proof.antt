@@ -1,19 +1,8 @@
-use Rattle.lists.proofs.Kit.{arith, refl, ℕ, _+_, _*_, _≤_, _<_, _≡_, ap, _∙_, List, length, needs}
-use Rattle.target_bin.specs.declared.chamber.TargetBin.{TargetBin}
-use Rattle.target_bin.specs.Chambers.{chamberAt, chamberCount}
-use Rattle.target_bin.specs.Leaning.{Shaped}
+use Rattle.lists.proofs.Kit.{arith, refl, ap, _∙_, length, needs}
 use Rattle.target_bin.specs.Return.{returnCommon}
-use Rattle.target_bin.proofs.Parts.{lent-part, length-partAt}
+use Rattle.target_bin.proofs.Parts.{lent-part, length-partAt, part-in, count-in}
 use Rattle.target_bin.proofs.Returning.{return-unknown, return-common, return-refused, return-accepted, return-room}
 use Rattle.target_bin.proofs.returns.return_to as it
-
--- the chamber's part is in the store
-part-in : (chambers store : List ℕ) (k : ℕ) → Shaped chambers store → k < chamberCount chambers → (k + 1) * 768 ≤ length store
-part-in chambers store k shaped h = omega (arith, shaped .long)
-
--- its count, as it was read
-count-in : (chambers store : List ℕ) (k : ℕ) (b : TargetBin) → Shaped chambers store → k < chamberCount chambers → b ≡ chamberAt chambers k → b .count ≤ 128
-count-in chambers store k b shaped h read = omega (arith, ap (λ (x : TargetBin). x .count) read, shaped .counted .counts k h)
 
 returns : it.Tie.Need-returns
 unfolding returnCommon
@@ -26,7 +15,7 @@ push-available-bin-section-requires c κs =
     let r = c .before in
     let e = r .before .before in
     let pre = e .before .before .before .before .before .pre in
-    (ap length (lent-part _ _) ∙ length-partAt _ _ (part-in _ _ _ pre (e .if1 .left)), count-in _ _ _ _ pre (e .if1 .left) (r .read .ensures))
+    (ap length (lent-part _ _) ∙ length-partAt _ _ (part-in _ _ _ pre (e .if1 .left)), count-in _ _ _ pre (e .if1 .left) _ (r .read .ensures))
 
 returns-2 : it.Tie.Need-returns-2
 returns-2 c =
@@ -46,7 +35,7 @@ add-write-count c =
     let p = c .before .before .before .before .before .before in
     let r = p .before .before in
     let e = r .before .before in
-    omega (arith, count-in _ _ _ _ (e .before .before .before .before .before .pre) (e .if1 .left) (r .read .ensures))
+    omega (arith, count-in _ _ _ (e .before .before .before .before .before .pre) (e .if1 .left) _ (r .read .ensures))
 
 returns-3 : it.Tie.Need-returns-3
 returns-3 c =
@@ -59,7 +48,7 @@ returns-3 c =
     let pre = f .before .before .before .before .pre in
     let push = p .push-available-bin-section in
     let room = return-room _ _ _ _ _ (f .find-chamber .ensures) _ (e .if1 .left) (r .read .ensures) (part-in _ _ _ pre (e .if1 .left)) _ _
-    (push .kept .0) (push .ensures .0) (push .ensures .1 .1) (d .if2 .left) (count-in _ _ _ _ pre (e .if1 .left) (r .read .ensures)) in (
+    (push .kept .0) (push .ensures .0) (push .ensures .1 .1) (d .if2 .left) (count-in _ _ _ pre (e .if1 .left) _ (r .read .ensures)) in (
       return-common _ _ _ _ _ (f .find-chamber .ensures) _ _ (push .ensures .1 .0),
       return-accepted _ _ _ _ _ (f .find-chamber .ensures) _ (e .if1 .left) (r .read .ensures) (part-in _ _ _ pre (e .if1 .left)) _ _
           (push .kept .0) (push .ensures .0) (push .ensures .1 .1) _ (d .if2 .left) room (w .write-count .ensures),

@@ -1,0 +1,2 @@
+pub mod Coalescing
+pub mod Meaning

@@ -1,0 +1,5 @@
+pub mod Neighbouring
+pub mod Afterwards
+pub mod Exact
+pub mod Steps
+pub mod Finding

@@ -1,0 +1,4 @@
+pub mod Neighbour
+pub mod Joining
+pub mod Means
+pub mod Leaning
