@@ -23,6 +23,7 @@ pub fn answer(job: &Job) -> Result<Vec<u32>, String> {
             chambers,
             rectangles,
         } => answer_pack(chambers, rectangles),
+        Job::Join { .. } => return Err(domain::NO_JOIN.to_string()),
     })
 }
 

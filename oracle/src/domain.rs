@@ -7,6 +7,9 @@ pub const MOST_SECTIONS: usize = 128;
 pub const MOST_RECTANGLES: usize = 63;
 pub const LONGEST_SIDE: u32 = 65_535;
 
+/// Why no join is compared with the crate.
+pub const NO_JOIN: &str = "the crate only announces joins; tools/join-cases answers them";
+
 /// Says why a job is outside of the compared domain, if it is.
 pub fn check(job: &Job) -> Result<(), String> {
     match job {
@@ -24,6 +27,7 @@ pub fn check(job: &Job) -> Result<(), String> {
             check_chambers(chambers)?;
             check_rectangles(chambers, rectangles)
         }
+        Job::Join { .. } => Err(NO_JOIN.to_string()),
     }
 }
 

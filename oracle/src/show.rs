@@ -14,6 +14,10 @@ pub fn job(job: &Job) -> Vec<String> {
             put_chambers(chambers, &mut lines);
             lines.push(format!("  to chamber {id} box {}", of_box(part)));
         }
+        Job::Join { chambers, id } => {
+            put_chambers(chambers, &mut lines);
+            lines.push(format!("  in chamber {id}"));
+        }
         Job::Pack {
             chambers,
             rectangles,
@@ -65,7 +69,7 @@ fn formed_answer(job: &Job, words: &[u32]) -> Result<Vec<String>, String> {
                 lines.push(format!("  {name} {}", of_box(&rest.section()?)));
             }
         }
-        Job::Return { chambers, .. } => {
+        Job::Return { chambers, .. } | Job::Join { chambers, .. } => {
             lines.push(format!("  common {}", of_box(&rest.section()?)));
             put_tables(chambers, rest, &mut lines)?;
         }

@@ -41,11 +41,17 @@ pub enum Job {
         chambers: Vec<Chamber>,
         rectangles: Vec<Rectangle>,
     },
+    /// It is read and shown; the crate has no answer to it.
+    Join {
+        chambers: Vec<Chamber>,
+        id: u32,
+    },
 }
 
 const TRY: u32 = 1;
 const RETURN: u32 = 2;
 const PACK: u32 = 3;
+const JOIN: u32 = 4;
 
 /// No job and no answer in the domain is longer than this.
 const LONGEST: u32 = 20_000;
@@ -75,6 +81,7 @@ impl Job {
             Job::Try { .. } => "try",
             Job::Return { .. } => "return",
             Job::Pack { .. } => "pack",
+            Job::Join { .. } => "join",
         }
     }
 
@@ -105,6 +112,11 @@ impl Job {
                     words.extend(rectangle.sides);
                 }
             }
+            Job::Join { chambers, id } => {
+                words.extend([JOIN, chambers.len() as u32]);
+                put_chambers(chambers, &mut words);
+                words.push(*id);
+            }
         }
         words
     }
@@ -125,6 +137,10 @@ impl Job {
             PACK => Job::Pack {
                 chambers: rest.chambers()?,
                 rectangles: rest.rectangles()?,
+            },
+            JOIN => Job::Join {
+                chambers: rest.chambers()?,
+                id: rest.word()?,
             },
             other => return Err(format!("no kind of job has the number {other}")),
         };

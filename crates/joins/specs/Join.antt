@@ -32,6 +32,7 @@ abbrev pub joinedIn : List ℕ → List ℕ → ℕ → Joined → Outcome
 joinedIn chambers store k j =
     outcome (reply 0 (j .joins)) (set chambers (k * 5 + 4) (length (j .free))) (put store (k * 768) (partOf (j .free)))
 
+-- so of the chamber that has the id, with its free sections joined "as long as two free sections join"
 unfoldable pub joinDone : List ℕ → List ℕ → ℕ → Outcome
 joinDone chambers store id =
     joinedIn chambers store (chamberOf chambers id) (joinAll (freeAt chambers store (chamberOf chambers id)))

@@ -11,11 +11,11 @@ use Rattle.bin_section.specs.Boxes.{boxAt}
 use Rattle.neighbours.specs.declared.pairs.Pair.{Pair}
 use Rattle.neighbours.specs.Neighbour.{joinsOf, joinedBox}
 
--- the section at the first index joins with that at the second, which is the later one
+-- "two free sections join into one box": that at the first index and that at the second, which is the later one
 unfoldable pub joinsWith : List BinSection → ℕ → ℕ → Bool
 joinsWith free i j = ltb i j && joinsOf (boxAt free i) (boxAt free j)
 
--- it joins with some later one
+-- the section at an index is the first of such a pair
 unfoldable pub joinsLater : List BinSection → ℕ → Bool
 joinsLater free i = anyBelow (length free) (joinsWith free i)
 
