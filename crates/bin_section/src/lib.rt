@@ -1,4 +1,6 @@
 // The ground floor: sides, volume, a section and its words, inside, overlap and the common box.
+#![tactic(auto)]
+
 mod bounds;
 mod overlaps;
 mod rect_to_insert;

@@ -48,7 +48,7 @@ length_pick (suc n) f =
 
 -- an element put behind all others
 each_two_last :
-    {A : Type 0} {R : A → A → Type 0} {xs : List A} (x : A)
+    {A : Type 0} {R : A → A → Type 0} (x : A) {xs : List A}
     → Each (λ y. R y x) xs
     → EachTwo R xs
     → EachTwo R (xs ++ (x ∷ []))

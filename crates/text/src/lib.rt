@@ -1,4 +1,6 @@
 // Text in bytes: texts copied, numbers written in decimal.
+#![tactic(auto)]
+
 ghost use Rattle.std.specs.Prelude.{◌≡◌, ◌+◌, ◌%◌, ◌≤◌, length};
 ghost use Rattle.text.specs.Decimal.{decimal, item};
 ghost use Rattle.text.specs.Written.{Written};

@@ -1,4 +1,6 @@
 // Words in bytes: 32 bits, big-endian, as files and programs of the project have them.
+#![tactic(auto)]
+
 ghost use Rattle.std.specs.Prelude.{◌≡◌, ◌++◌, ◌+◌, ◌*◌, ◌≤◌, length, drop};
 ghost use Rattle.lists.specs.Tab.{put};
 ghost use Rattle.wire.specs.Word.{word_at, bytes_of, words_in, bytes_in};

@@ -1,4 +1,6 @@
 // Words of a table: values put at an index, one value repeated, a record taken out.
+#![tactic(auto)]
+
 ghost use Rattle.std.specs.Prelude.{◌+◌, ◌≤◌, ◌≡◌, length, replicate};
 ghost use Rattle.lists.specs.Tab.{put};
 ghost use Rattle.words.specs.Leaning.{moved_down, without};
