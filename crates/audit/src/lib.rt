@@ -13,7 +13,7 @@ use replies::Reply;
 use sections::CommonReply;
 
 // The audit's limit.
-#[derive(Drop)]
+#[derive(Clone, Copy)]
 pub struct ChamberAudit {}
 
 impl ChamberAudit {

@@ -7,7 +7,7 @@ mod reply;
 use line::write_line;
 use reply::reply_of;
 
-#[derive(Drop)]
+#[derive(Clone, Copy)]
 pub struct AuditInput {}
 
 impl AuditInput {

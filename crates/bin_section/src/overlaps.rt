@@ -6,7 +6,7 @@ use crate::section::BinSection;
 use crate::width_height_depth::WidthHeightDepth;
 
 // "the common box, or none"
-#[derive(Drop)]
+#[derive(Clone, Copy)]
 pub enum Common {
     Shared(BinSection),
     Apart,

@@ -6,7 +6,7 @@ ghost use Rattle.bin_section.specs.Section.{section, whole_section, zero_section
 use crate::width_height_depth::WidthHeightDepth;
 use words::put_words;
 
-#[derive(Drop)]
+#[derive(Clone, Copy)]
 pub struct BinSection {
     pub x: u32,
     pub y: u32,

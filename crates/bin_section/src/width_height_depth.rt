@@ -3,7 +3,7 @@ ghost use Rattle.std.specs.Prelude.{◌≡◌, ◌≤◌, length};
 ghost use Rattle.bin_section.specs.Sides.{sides, sides_in, volume_of, side_ok, sides_ok};
 ghost use Rattle.bin_section.specs.Leaning.{Small};
 
-#[derive(Drop)]
+#[derive(Clone, Copy)]
 pub struct WidthHeightDepth {
     pub width: u32,
     pub height: u32,

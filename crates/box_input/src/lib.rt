@@ -10,7 +10,7 @@ use bin_section::{BinSection, WidthHeightDepth};
 use head::{head, is_input};
 
 // What an input says before its boxes: the chamber, and how many boxes are placed and free.
-#[derive(Drop)]
+#[derive(Clone, Copy)]
 pub struct InputHead {
     pub whd: WidthHeightDepth,
     pub placed: usize,
@@ -18,7 +18,7 @@ pub struct InputHead {
 }
 
 // What bytes are: an input, or none.
-#[derive(Drop)]
+#[derive(Clone, Copy)]
 pub enum BoxInput {
     Boxes(InputHead),
     NoInput,

@@ -7,7 +7,7 @@ ghost use Rattle.grouped_rects_to_place.specs.Leaning.{HasRect};
 use bin_section::WidthHeightDepth;
 use words::put_words;
 
-#[derive(Drop)]
+#[derive(Clone, Copy)]
 pub struct RectToPlace {
     pub id: u32,
     pub group: u32,

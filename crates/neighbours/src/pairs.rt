@@ -10,7 +10,7 @@ use crate::neighbour::joins;
 use bin_section::BinSection;
 
 // Two positions in a list, the first below the second; both the list's length where no two join.
-#[derive(Drop)]
+#[derive(Clone, Copy)]
 pub struct Pair {
     pub first: usize,
     pub second: usize,

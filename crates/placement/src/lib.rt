@@ -6,7 +6,7 @@ ghost use Rattle.placement.specs.Leaning.{HasPlacement};
 
 use words::put_words;
 
-#[derive(Drop)]
+#[derive(Clone, Copy)]
 pub struct Placement {
     pub placed: u32,
     pub chamber: u32,

@@ -14,14 +14,14 @@ use sections::remove_section;
 use try_place::{PackedLocation, TryAnswer, chosen_three, fit};
 
 // Where a rectangle went.
-#[derive(Drop)]
+#[derive(Clone, Copy)]
 pub enum Spot {
     At(PackedLocation),
     Nowhere,
 }
 
 // Where it went, and the number of free sections afterwards.
-#[derive(Drop)]
+#[derive(Clone, Copy)]
 pub struct PlacedRect {
     pub spot: Spot,
     pub count: usize,

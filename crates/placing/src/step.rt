@@ -16,7 +16,7 @@ use sections::append_section;
 use try_place::PackedLocation;
 
 // What a step comes to.
-#[derive(Drop)]
+#[derive(Clone, Copy)]
 pub enum Step {
     // All went in, each at its location; so many sections of the copy are free then.
     Whole(usize),

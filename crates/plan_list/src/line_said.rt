@@ -11,7 +11,7 @@ use grouped_rects_to_place::RectToPlace;
 use target_bin::TargetBin;
 
 // A slip has its number, and the word that it is about.
-#[derive(Drop)]
+#[derive(Clone, Copy)]
 pub enum LineSaid {
     Nothing,
     Chamber(TargetBin),

@@ -3,7 +3,7 @@ ghost use Rattle.std.specs.Prelude.{◌≡◌, [], ◌+◌, ◌≤◌, ◌<◌, 
 ghost use Rattle.plan_list.specs.Words.{is_blank, is_of, first_of, words_of, same_bytes};
 
 // Kinds of bytes to look for: one byte, or one of these two.
-#[derive(Drop)]
+#[derive(Clone, Copy)]
 pub struct Mark {}
 
 impl Mark {

@@ -14,7 +14,7 @@ use grouped_rects_to_place::RectToPlace;
 use target_bin::TargetBin;
 
 // How far a list was read: the counts of chambers and coils, the number of the line, and the slip in it, with its word.
-#[derive(Drop)]
+#[derive(Clone, Copy)]
 pub struct ListRead {
     pub chambers: usize,
     pub coils: usize,

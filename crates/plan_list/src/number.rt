@@ -2,7 +2,7 @@
 ghost use Rattle.std.specs.Prelude.{◌≡◌, ◌<◌};
 ghost use Rattle.plan_list.specs.Number.{no_number, with_digit, said};
 
-#[derive(Drop)]
+#[derive(Clone, Copy)]
 pub struct Number {}
 
 impl Number {

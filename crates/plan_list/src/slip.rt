@@ -1,5 +1,5 @@
 // Slips of the pen, as the list's definition numbers them.
-#[derive(Drop)]
+#[derive(Clone, Copy)]
 pub struct Slip {}
 
 impl Slip {

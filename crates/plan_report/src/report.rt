@@ -11,7 +11,7 @@ use crate::refusals::{refused_line, write_refusal};
 use crate::summary::write_summary;
 use replies::Reply;
 
-#[derive(Drop)]
+#[derive(Clone, Copy)]
 pub struct Report {}
 
 impl Report {

@@ -17,7 +17,7 @@ use plan_report::{Report, write_report, write_slip};
 use replies::Reply;
 use target_bin::TargetBin;
 
-#[derive(Drop)]
+#[derive(Clone, Copy)]
 struct PlanTables {}
 
 impl PlanTables {

@@ -15,7 +15,7 @@ use sections::copy_sections;
 use target_bin::TargetBin;
 
 // Where a group goes: into the chamber at this index, which then has so many free sections; or into none.
-#[derive(Drop)]
+#[derive(Clone, Copy)]
 pub enum Fit {
     In(usize, usize),
     Nowhere,

@@ -13,7 +13,7 @@ pub const MARK: u32 = 0xdead_beef;
 pub const NONE: usize = TargetBin::MOST;
 
 // What has to stand in the store past the counts after a job: 0 in the chamber at index `cleared`, one word in all others.
-#[derive(Drop)]
+#[derive(Clone, Copy)]
 pub struct Past {
     pub word: u32,
     pub cleared: usize,

@@ -4,7 +4,7 @@ ghost use Rattle.replies.specs.Replies.{reply};
 
 // "Each reply is a number and a detail." It is laid out as in C: the C face returns it as cafunderi_reply.
 #[repr(C)]
-#[derive(Drop)]
+#[derive(Clone, Copy)]
 pub struct Reply {
     pub number: u32,
     pub detail: u32,

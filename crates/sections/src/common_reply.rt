@@ -6,7 +6,7 @@ use bin_section::Common;
 use replies::Reply;
 
 // A reply, and the common box "beside the detail", or none.
-#[derive(Drop)]
+#[derive(Clone, Copy)]
 pub struct CommonReply {
     pub reply: Reply,
     pub common: Common,

@@ -7,7 +7,7 @@ use bin_section::{BinSection, WidthHeightDepth};
 use words::put_words;
 
 // The free sections themselves lie in the store: count says how many they are.
-#[derive(Drop)]
+#[derive(Clone, Copy)]
 pub struct TargetBin {
     pub id: u32,
     pub whd: WidthHeightDepth,

@@ -15,7 +15,7 @@ use replies::Reply;
 use splits::six_splits;
 
 // The answer to a try. The last three are the Rust's BinSectionError.
-#[derive(Drop)]
+#[derive(Clone, Copy)]
 pub enum TryAnswer {
     Placed(PackedLocation),
     BadSection,
@@ -26,7 +26,7 @@ pub enum TryAnswer {
 }
 
 // The answer with the three sections beside it, right, above, behind. A refusal has three zero sections.
-#[derive(Drop)]
+#[derive(Clone, Copy)]
 pub struct Tried {
     pub answer: TryAnswer,
     pub sections: [BinSection; 3],

@@ -1,7 +1,7 @@
 // Where a rectangle was placed. No rotation is recorded.
 use bin_section::WidthHeightDepth;
 
-#[derive(Drop)]
+#[derive(Clone, Copy)]
 pub struct PackedLocation {
     pub x: u32,
     pub y: u32,
