@@ -1,4 +1,6 @@
 // The placement record: where a rectangle went, in the lent table.
+#![tactic(auto)]
+
 ghost use Rattle.std.specs.Prelude.{◌≡◌, ◌*◌};
 ghost use Rattle.lists.specs.Tab.{put};
 ghost use Rattle.placement.specs.Placements.{placement_width, placement_at, placement_words};
