@@ -1,5 +1,7 @@
 // The sections of one list of six words each: searches, the space that is shared and a reply that hands it on, the sum of their volumes, removal,
 // append, clearing and copying.
+#![tactic(auto)]
+
 mod available;
 mod common_reply;
 mod first;

@@ -1,0 +1,6 @@
+use Rattle.lists.proofs.Kit.{rules}
+use Rattle.sections.proofs.Moves.{cleared}
+use Rattle.sections.proofs.available.clear_past.Goals as goal
+
+pub returns : goal.returns
+returns c = search (rules, cleared)
