@@ -1,5 +1,7 @@
 // The input of the programs that are given boxes: a chamber, its placed and its free boxes, in bytes. An input is read whole into two lent
 // tables; what is no input leaves them as they are.
+#![tactic(auto)]
+
 ghost use Rattle.std.specs.Prelude.{◌≡◌, ◌++◌, ◌+◌, ◌*◌, ◌≤◌, length, drop};
 ghost use Rattle.wire.specs.Word.{words_in};
 ghost use Rattle.box_input.specs.Read.{input_read, input_of};
