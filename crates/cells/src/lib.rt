@@ -1,1 +1,3 @@
+#![tactic(auto)]
+
 // Unit cells of a chamber and of a list of boxes: definitions and the counting law. No code stands here.
