@@ -1,6 +1,7 @@
 -- Laws of a try whose answer comes first: a refusal has nothing else to give, and what is placed passed every check.
 use mathlib.Core.Path.{◌≡◌, refl, ap, ◌∙◌}
 use mathlib.Core.List.{List, [], ◌∷◌}
+use mathlib.Core.Logic.{inl, inr}
 use native.Mathlib.Omega.{arith}
 use types.Run.{OneOf, miss}
 use denote.Enum.Declared.{tag_of}
@@ -24,6 +25,15 @@ use Rattle.try_place.specs.contracts.TryAnswer.{the_type}
 -- the tags of the refusals
 abbrev Refusal : TryAnswer → Type 0
 Refusal a = OneOf (1 ∷ 2 ∷ 3 ∷ 4 ∷ 5 ∷ []) (tag_of the_type a)
+
+-- what is not placed is a refusal
+pub refusal : (a : TryAnswer) → ((l : PackedLocation) → a ≡ Placed l → ⊥) → Refusal a
+refusal (Placed l) n = absurd (n l refl)
+refusal BadSection n = inl refl
+refusal BadRectangle n = inr (inl refl)
+refusal PlacementWiderThanBinSection n = inr (inr (inl refl))
+refusal PlacementTallerThanBinSection n = inr (inr (inr (inl refl)))
+refusal PlacementDeeperThanBinSection n = inr (inr (inr (inr refl)))
 
 -- a refusal's number is not 0
 refusal_numbered : (a : TryAnswer) → Refusal a → number_of a ≡ 0 → ⊥

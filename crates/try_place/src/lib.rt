@@ -1,4 +1,6 @@
 // Try one placement: a rectangle in the corner of a section, and what remains.
+#![tactic(auto)]
+
 ghost use Rattle.std.specs.Prelude.{◌≡◌};
 ghost use Rattle.try_place.specs.Leaning.{Fitting};
 ghost use Rattle.try_place.specs.Try.{span_ok, section_ok, refused_of, placed_of, fit_of, try_of, number_of, location_of};

@@ -1,9 +1,0 @@
-use Rattle.lists.proofs.Kit.{needs}
-use Rattle.try_place.proofs.splits.split as it
-
-pub split_spec : {M : Type 1} → it.Statement.statement M
-split_spec =
-    it.Tie.close
-    (it.Tie.spec (λ c. search needs) (λ c κs. search needs) (λ c κs. search needs) (λ c. search needs)
-    (λ c κs. search needs) (λ c κs. search needs) (λ c. search needs) (λ c κs. search needs) (λ c κs. search needs)
-    (λ c. cc))
