@@ -1,4 +1,6 @@
 // Rectangles that are to be placed: their table, its checks, and their groups in the order of packing.
+#![tactic(auto)]
+
 mod checks;
 mod groups;
 mod rect_to_place;
