@@ -1,0 +1,8 @@
+use Rattle.lists.proofs.Kit.{arith, ap, rules}
+use Rattle.target_bin.specs.declared.chamber.TargetBin.{TargetBin}
+use Rattle.target_bin.proofs.Parts.{part_room}
+use Rattle.target_bin.proofs.Checking.{bad_is}
+use Rattle.target_bin.proofs.checks.bad_sections.Goals as goal
+
+pub returns : goal.returns
+returns c = bad_is _ _ _ _ _ c.read-bin.ensures c.first_outside.ensures
