@@ -33,7 +33,7 @@ still_waiting id ls seats g h d w =
       below = each_map (λ i b. omega (arith, length-seated id g ls seats)) w.below;
       rising = w.rising;
       empty_yet =
-          each_map (λ j q. seated_other id ls seats j (each_map (λ i u e. u (sym e)) q.0) ∙ q.1) (each_both (each_swap h d) w.empty_yet);
+          each_map (λ j q. seated_other id j ls seats (each_map (λ i u e. u (sym e)) q.0) ∙ q.1) (each_both (each_swap h d) w.empty_yet);
     }
 
 -- the groups of a table wait, before any is packed
@@ -57,7 +57,7 @@ module _ (order : List ℕ) (ids : ℕ → ℕ) (r : ℕ → RectToPlace) where
       by_turns order ids r (λ groups s e. Each (ApartFrom i) groups → get_or e.after.seats i unplaced ≡ get_or s.seats i unplaced)
       (λ s ps. refl)
       (λ g gs s q ps. refl)
-      (λ g gs s t ls free q e rest ps. rest (each_tail ps) ∙ seated_other (ids (get_or order t 0)) ls s.seats i (each_head ps))
+      (λ g gs s t ls free q e rest ps. rest (each_tail ps) ∙ seated_other (ids (get_or order t 0)) i ls s.seats (each_head ps))
 
   -- groups that wait and share no rectangle are each whole in one chamber or nowhere when the packing ends
   whole_or_nowhere :

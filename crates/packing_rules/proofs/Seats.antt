@@ -38,11 +38,11 @@ seated_more id i (j ∷ is) l (m ∷ ls) seats e = seated_more id i is l ls (set
 abbrev pub ApartFrom : ℕ → List ℕ → Type 0
 ApartFrom i g = Each (λ j. i ≡ j → ⊥) g
 
-pub seated_other : (id : ℕ) {is : List ℕ} (ls : List PackedLocation) (seats : List Seat) (i : ℕ) → ApartFrom i is → get_or (seated id is ls seats) i unplaced ≡ get_or seats i unplaced
+pub seated_other : (id i : ℕ) {is : List ℕ} (ls : List PackedLocation) (seats : List Seat) → ApartFrom i is → get_or (seated id is ls seats) i unplaced ≡ get_or seats i unplaced
 unfolding seated
-seated_other id ls seats i none = refl
-seated_other id [] seats i (also p ps) = refl
-seated_other id (l ∷ ls) seats i (also {x} p ps) = seated_other id ls (set seats x (seat id l)) i ps ∙ get_or-set_other seats x i (seat id l) unplaced p
+seated_other id i ls seats none = refl
+seated_other id i [] seats (also p ps) = refl
+seated_other id i (l ∷ ls) seats (also {x} p ps) = seated_other id i ls (set seats x (seat id l)) ps ∙ get_or-set_other seats x i (seat id l) unplaced p
 
 -- each of the group has its own
 pub seated_all :
@@ -56,7 +56,7 @@ seated_all id ls seats e none no_two = none
 seated_all id [] seats e (also b bs) (also_two r rs) = absurd (omega arith)
 seated_all id (l ∷ ls) seats e (also {x} b bs) (also_two r rs) =
     also
-    (l, seated_other id ls (set seats x (seat id l)) x (each_map (λ j h q. omega arith) r) ∙ get_or-set_same seats x (seat id l) unplaced b)
+    (l, seated_other id x ls (set seats x (seat id l)) (each_map (λ j h q. omega arith) r) ∙ get_or-set_same seats x (seat id l) unplaced b)
     (seated_all id ls (set seats x (seat id l)) (omega arith) (each_map (λ j h. omega (arith, length-set seats x (seat id l))) bs) rs)
 
 -- a seat after a group has taken its own: as it was, or at one of the group's locations
