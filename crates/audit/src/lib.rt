@@ -1,4 +1,6 @@
 // The audit of one chamber: whether its placed and free boxes lie inside and hold each unit cell exactly once.
+#![tactic(auto)]
+
 ghost use Rattle.std.specs.Prelude.{◌≡◌, ◌+◌, ◌*◌, ◌/◌, ◌%◌, ◌<◌, length, take, drop, ◌++◌};
 ghost use Rattle.bin_section.specs.Overlap.{common_words};
 ghost use Rattle.replies.specs.Replies.{reply};
