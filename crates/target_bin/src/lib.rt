@@ -1,5 +1,6 @@
 // The chambers: the lent tables and their checks, fresh chambers, and the return of a section.
 #![tactic(auto)]
+
 mod chamber;
 mod checks;
 mod freshen;

@@ -1,6 +1,3 @@
-use Rattle.lists.proofs.Kit.{arith, ap, rules}
-use Rattle.target_bin.specs.declared.chamber.TargetBin.{TargetBin}
-use Rattle.target_bin.proofs.Parts.{part_room}
 use Rattle.target_bin.proofs.Checking.{bad_is}
 use Rattle.target_bin.proofs.checks.bad_sections.Goals as goal
 

@@ -1,4 +1,3 @@
-use Rattle.lists.proofs.Kit.{rules}
 use Rattle.target_bin.specs.Checks.{chamber_ok}
 use Rattle.target_bin.proofs.checks.chamber_ok.Goals as goal
 

@@ -1,6 +1,5 @@
-use Rattle.lists.proofs.Kit.{arith, ◌≡◌, sym, ◌∙◌, true, not-false, rules}
+use Rattle.lists.proofs.Kit.{arith, sym, ◌∙◌, not-false, rules}
 use Rattle.replies.proofs.Ladders.{checks, none_found}
-use Rattle.target_bin.specs.Checks.{lengths_ok}
 use Rattle.target_bin.proofs.Passing.{lengths, counted}
 use Rattle.target_bin.proofs.checks.check_tables.Goals as goal
 

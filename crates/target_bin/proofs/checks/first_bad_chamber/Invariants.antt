@@ -1,7 +1,6 @@
 use mathlib.Core.Bool.{cond}
-use Rattle.lists.proofs.Kit.{◌≤◌, ◌-◌, ◌≡◌, ◌∙◌, rules}
+use Rattle.lists.proofs.Kit.{◌≤◌, ◌≡◌}
 use Rattle.lists.specs.Lowest.{lowest}
-use Rattle.lists.proofs.Lowests.{lowest_at, lowest-next, lowest_over}
 use Rattle.target_bin.specs.Chambers.{chamber_count}
 use Rattle.target_bin.specs.Checks.{bad_shape, bad_chamber}
 use Rattle.target_bin.proofs.checks.first_bad_chamber.Given as goal

@@ -1,8 +1,5 @@
-use Rattle.lists.proofs.Kit.{◌≤◌, ◌-◌, ◌≡◌, ◌∙◌, rules}
-use Rattle.lists.specs.Lowest.{lowest}
+use Rattle.lists.proofs.Kit.{◌∙◌, rules}
 use Rattle.lists.proofs.Lowests.{lowest_at, lowest-next, lowest_over}
-use Rattle.target_bin.specs.Chambers.{chamber_count}
-use Rattle.target_bin.specs.Checks.{bad_sections}
 use Rattle.target_bin.proofs.checks.first_bad_section.Goals as goal
 
 pub returns-then-bad_sections : goal.returns-then-bad_sections

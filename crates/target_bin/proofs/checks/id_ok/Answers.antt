@@ -1,4 +1,4 @@
-use Rattle.lists.proofs.Kit.{sym, rules}
+use Rattle.lists.proofs.Kit.{sym}
 use Rattle.target_bin.proofs.Checking.{id_first, id_later}
 use Rattle.target_bin.proofs.checks.id_ok.Goals as goal
 

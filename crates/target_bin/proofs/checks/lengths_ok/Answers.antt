@@ -1,4 +1,4 @@
-use Rattle.lists.proofs.Kit.{sym, rules}
+use Rattle.lists.proofs.Kit.{sym}
 use Rattle.target_bin.proofs.Checking.{lengths_odd, lengths_many, lengths_store}
 use Rattle.target_bin.proofs.checks.lengths_ok.Goals as goal
 

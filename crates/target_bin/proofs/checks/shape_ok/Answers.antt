@@ -1,4 +1,3 @@
-use Rattle.lists.proofs.Kit.{rules}
 use Rattle.target_bin.specs.Checks.{shape_ok}
 use Rattle.target_bin.proofs.checks.shape_ok.Goals as goal
 

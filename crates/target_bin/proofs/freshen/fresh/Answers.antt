@@ -1,6 +1,5 @@
-use Rattle.lists.proofs.Kit.{arith, ◌≡◌, sym, ◌∙◌, true, not-false, rules}
+use Rattle.lists.proofs.Kit.{arith, sym, ◌∙◌, not-false}
 use Rattle.replies.proofs.Ladders.{checks}
-use Rattle.target_bin.specs.Checks.{lengths_ok}
 use Rattle.target_bin.specs.Fresh.{fresh_of}
 use Rattle.target_bin.proofs.Checking.{outcome_is}
 use Rattle.target_bin.proofs.Passing.{lengths}

@@ -1,4 +1,4 @@
-use Rattle.lists.proofs.Kit.{arith, length, ◌*◌, ap, ◌∙◌, rules}
+use Rattle.lists.proofs.Kit.{arith, length, ◌*◌, ap, ◌∙◌}
 use Rattle.lists.specs.Tab.{put}
 use Rattle.target_bin.specs.declared.chamber.TargetBin.{TargetBin}
 use Rattle.target_bin.specs.Store.{part_of}

@@ -1,6 +1,5 @@
-use Rattle.lists.proofs.Kit.{◌-◌, ◌≡◌, rules}
-use Rattle.target_bin.specs.Chambers.{chamber_count}
-use Rattle.target_bin.proofs.Freshening.{Freshly, freshly_none, freshly_more, freshly_all}
+use Rattle.lists.proofs.Kit.{rules}
+use Rattle.target_bin.proofs.Freshening.{freshly_none, freshly_more, freshly_all}
 use Rattle.target_bin.proofs.freshen.freshen_all.Goals as goal
 
 pub loop-i-init : goal.loop-i-init

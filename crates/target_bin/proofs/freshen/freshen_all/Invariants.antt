@@ -1,6 +1,6 @@
-use Rattle.lists.proofs.Kit.{◌-◌, ◌≡◌, rules}
+use Rattle.lists.proofs.Kit.{◌≡◌}
 use Rattle.target_bin.specs.Chambers.{chamber_count}
-use Rattle.target_bin.proofs.Freshening.{Freshly, freshly_none, freshly_more, freshly_all}
+use Rattle.target_bin.proofs.Freshening.{Freshly}
 use Rattle.target_bin.proofs.freshen.freshen_all.Given as goal
 
 abbrev pub invariant-loop-i : goal.invariant-loop-i

@@ -1,4 +1,4 @@
-use Rattle.lists.proofs.Kit.{[], ◌∷◌, ap, ◌∙◌, rules}
+use Rattle.lists.proofs.Kit.{[], ◌∷◌, ap, ◌∙◌}
 use Rattle.bin_section.specs.declared.section.BinSection.{BinSection}
 use Rattle.target_bin.specs.Store.{part_of}
 use Rattle.target_bin.proofs.Freshening.{fresh_part}

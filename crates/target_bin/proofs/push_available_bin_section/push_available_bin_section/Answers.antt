@@ -1,4 +1,4 @@
-use Rattle.lists.proofs.Kit.{refl, rules}
+use Rattle.lists.proofs.Kit.{refl}
 use Rattle.replies.proofs.Ladders.{checks}
 use Rattle.target_bin.specs.Return.{push_checks, return_common}
 use Rattle.target_bin.proofs.push_available_bin_section.push_available_bin_section.Goals as goal

@@ -1,4 +1,3 @@
-use Rattle.lists.proofs.Kit.{rules}
 use Rattle.target_bin.proofs.Passing.{sound_tables}
 use Rattle.target_bin.proofs.Returning.{return-tables, return_past}
 use Rattle.target_bin.proofs.returns.return_section.Goals as goal

@@ -1,6 +1,6 @@
-use Rattle.lists.proofs.Kit.{arith, refl, ap, ◌∙◌, length, rules}
+use Rattle.lists.proofs.Kit.{refl}
 use Rattle.target_bin.specs.Return.{return_common}
-use Rattle.target_bin.proofs.Parts.{lent_part, length-part_at, part_in, count_in}
+use Rattle.target_bin.proofs.Parts.{part_in, count_in}
 use Rattle.target_bin.proofs.Returning.{return_unknown, return_common_lem, return_refused, return_accepted, return_room}
 use Rattle.target_bin.proofs.returns.return_to.Goals as goal
 
