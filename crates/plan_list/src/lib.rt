@@ -1,4 +1,6 @@
 // The planner's list read: text to tables for a pack.
+#![tactic(auto)]
+
 mod line_said;
 mod line_words;
 mod list;
