@@ -1,4 +1,6 @@
 // One rectangle, and one group, placed among the free sections of a chamber.
+#![tactic(auto)]
+
 mod add_new_sections;
 mod chamber;
 mod place;
