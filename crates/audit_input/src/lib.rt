@@ -1,4 +1,6 @@
 // The audit program's work, on bytes: an input audited, and its line written.
+#![tactic(auto)]
+
 ghost use Rattle.audit_input.specs.Line.{line_of, Wrote};
 
 mod line;
