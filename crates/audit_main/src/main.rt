@@ -2,7 +2,7 @@
 use audit_input::{AuditInput, audit_line};
 use box_input::BoxInput;
 
-// One byte past the longest valid input: what is longer still gets the same line (`cut-Line` of the library's proofs).
+// One byte past the longest valid input: what is longer still gets the same line (`cut_line` of the library's proofs).
 const MOST_READ: usize = BoxInput::MOST + 1;
 
 fn main() {

@@ -42,6 +42,6 @@ unfoldable pub join_from : ℕ → ℕ → List BinSection → Joined
 join_from zero joins free = leaving free joins
 join_from (suc n) joins free = cond (some_join free) (join_from n (suc joins) (joined_at free (pair_of free))) (leaving free joins)
 
--- each join takes one section away, so as many steps as sections are enough: afterwards no two join (`All-none`, proofs/Steps.antt)
+-- each join takes one section away, so as many steps as sections are enough: afterwards no two join (`all_none`, proofs/Steps.antt)
 unfoldable pub join_all : List BinSection → Joined
 join_all free = join_from (length free) 0 free

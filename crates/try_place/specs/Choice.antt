@@ -43,7 +43,7 @@ ranks_of t = map (λ k. rank_split (get_or t k []) k) (0 ∷ 1 ∷ 2 ∷ 3 ∷ 4
 unfoldable pub chosen : List (List BinSection) → ℕ
 chosen t = (best_of (ranks_of t)).index
 
--- ---- What the choice means, said without the fold. `chosen_is` and `one_Choice` (proofs/Meaning.antt) prove it.
+-- ---- What the choice means, said without the fold. `chosen_is` and `one_choice` (proofs/Meaning.antt) prove it.
 
 -- strictly better, and at least as good
 unfoldable pub Under : Ranked → Ranked → Type 0
