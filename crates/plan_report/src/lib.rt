@@ -1,4 +1,6 @@
 // What the planner's program writes: the report of a pack, or of a slip in the list.
+#![tactic(auto)]
+
 mod coils;
 mod phrases;
 mod refusals;
