@@ -1,4 +1,6 @@
 // Pack: groups of rectangles into chambers.
+#![tactic(auto)]
+
 mod checks;
 mod groups;
 mod order;
