@@ -10,7 +10,7 @@ use Rattle.bin_section.specs.declared.section.BinSection.{BinSection}
 use Rattle.bin_section.specs.declared.width_height_depth.WidthHeightDepth.{WidthHeightDepth}
 use Rattle.bin_section.specs.Sides.{sides}
 use Rattle.bin_section.specs.Section.{whole_section}
-use Rattle.replies.specs.Replies.{Check, reply, once}
+use Rattle.replies.specs.Replies.{Check, reply}
 use Rattle.cells.specs.Whole.{Whole}
 use Rattle.cells.proofs.Grid.{has_le, has_in}
 use Rattle.lists.proofs.Totals.{total}

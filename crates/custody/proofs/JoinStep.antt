@@ -1,5 +1,5 @@
 -- A join leaves every chamber whole: the joined sections have the cells of those before, and nothing is placed or taken back.
-use Prim.Native.Nat.{ℕ, ◌+◌}
+use Prim.Native.Nat.{ℕ}
 use mathlib.Core.Path.{◌≡◌, sym, refl, subst}
 use mathlib.Core.List.{List, ◌++◌}
 use native.Mathlib.Decide.{ℕ_discrete}

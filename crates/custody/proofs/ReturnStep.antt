@@ -11,7 +11,6 @@ use Rattle.lists.specs.Sort.{Each, also}
 use Rattle.lists.proofs.Flags.{cond_yes, cond_no, and_both, and_no_first, and_no_second}
 use Rattle.bin_section.specs.declared.section.BinSection.{BinSection}
 use Rattle.bin_section.specs.declared.width_height_depth.WidthHeightDepth.{WidthHeightDepth}
-use Rattle.replies.specs.Replies.{reply}
 use Rattle.cells.specs.Whole.{Inside, Whole}
 use Rattle.cells.proofs.Grid.{has}
 use Rattle.cells.proofs.Held.{whole_same}

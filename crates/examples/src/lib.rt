@@ -1,1 +1,2 @@
 // The worked examples of the scope: one table under one statement. No code stands here.
+#![tactic(auto)]
