@@ -1,5 +1,7 @@
 // The C face: the six jobs for programs in other languages. include/cafunderi.h declares them.
 // A table is a pointer and a length in words. A job that takes its tables as the C face has them is called as it stands.
+#![tactic(auto)]
+
 ghost use Rattle.std.specs.Prelude.{◌≡◌};
 ghost use Rattle.target_bin.specs.Outcome.{outcome};
 ghost use Rattle.target_bin.specs.Fresh.{fresh_of};
