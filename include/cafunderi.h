@@ -1,6 +1,7 @@
 /* Cafunderi: boxes packed into chambers. The C face of the six jobs.
  *
- * `rt lib`, in crates/cafunderi, builds the archive out/libcafunderi.a there. It is for x86-64 Linux and needs memcpy and memset of the C library.
+ * `rt lib`, in crates/cafunderi, builds the archive out/libcafunderi.a there. It is for Linux on processors of x86-64-v2 and later, and needs
+ * memcpy and memset of the C library.
  *
  * Tables. A table is a pointer to 32-bit words and its length in words. A box or a section is 6 words: x, y, z, width,
  * height, depth. Sides are 1 to 65,535.
