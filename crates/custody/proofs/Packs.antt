@@ -70,7 +70,7 @@ module _ (m n : ℕ) (ids : ℕ → ℕ) (whds : ℕ → WidthHeightDepth) (r : 
 
 module _
     (m n : ℕ) (ids : ℕ → ℕ) (whds : ℕ → WidthHeightDepth) (r : ℕ → RectToPlace) (frees₀ : List (List BinSection))
-    (one_Index : (j k : ℕ) → j < m → k < m → ids j ≡ ids k → j ≡ k)
+    (one_index : (j k : ℕ) → j < m → k < m → ids j ≡ ids k → j ≡ k)
     (small : (k : ℕ) → k < m → Small (whds k))
     (sided : (i : ℕ) → i < n → Sided (r i).whd) where
   -- ---- one group is served in chamber k
@@ -101,7 +101,7 @@ module _
     unmoved : (w : BinSection → ℕ) (j : ℕ) → j < m → (j ≡ k → ⊥) → seat_total w r n (ids j) (seated (ids k) g ls s.seats) ≡ seat_total w r n (ids j) s.seats
     unmoved w j h ne =
         seated_adds r n w (ids j) (ids k) g ls s.seats p.seats_long same_length waits
-        ∙ rw (ne_eqb (ids k) (ids j) (λ q. ne (one_Index j k h low (sym q)))) (omega arith)
+        ∙ rw (ne_eqb (ids k) (ids j) (λ q. ne (one_index j k h low (sym q)))) (omega arith)
 
     cells_at : (j : ℕ) → j < m → Dec (j ≡ k) → (cx cy cz : ℕ) → seat_total (λ b. has b cx cy cz) r n (ids j) (seated (ids k) g ls s.seats) + held (get_or (set s.frees k free') j []) cx cy cz ≡ held (get_or frees₀ j []) cx cy cz
     cells_at j h (yes q) cx cy cz =
