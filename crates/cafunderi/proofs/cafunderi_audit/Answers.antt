@@ -1,3 +1,4 @@
+use Rattle.lists.proofs.Kit.{rules}
 use Rattle.replies.proofs.Ladders.{checks}
 use Rattle.cafunderi.specs.Audit.{audit_face}
 use Rattle.cafunderi.proofs.Faces.{face_audited}
@@ -5,7 +6,7 @@ use Rattle.cafunderi.proofs.cafunderi_audit.Goals as goal
 
 pub returns : goal.returns
 returns c =
-    face_audited _ _ _ _ c.hand_on.ensures.0 c.hand_on.ensures.1 _ _ _ c.if-sides-common.false _ c.read-whd.ensures c.audit_answer-answer.ensures
+    face_audited _ _ _ _ c.hand_on.ensures.0 c.hand_on.ensures.1 _ _ _ (search rules) _ c.read-whd.ensures c.audit_answer-answer.ensures
 
 pub returns-then-sides-common : goal.returns-then-sides-common
 unfolding audit_face
