@@ -1,5 +1,5 @@
-pub mod Means
 pub mod Places
-pub mod Replying
 pub mod Tests
 pub mod TwoLists
+pub mod Replying
+pub mod Means

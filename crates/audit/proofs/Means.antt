@@ -13,7 +13,7 @@ use Rattle.lists.proofs.Flags.{cond_no}
 use Rattle.lists.proofs.Lowests.{lowest_none, lowest_here, lowest_fires, none_below_lowest, none_of_lowest}
 use Rattle.bin_section.specs.declared.width_height_depth.WidthHeightDepth.{WidthHeightDepth}
 use Rattle.bin_section.specs.declared.section.BinSection.{BinSection}
-use Rattle.bin_section.specs.declared.overlaps.Common.TheVariants as overlap
+use Rattle.std.proofs.Common.{None as Nothing}
 use Rattle.replies.specs.declared.reply.Reply.{Reply}
 use Rattle.bin_section.specs.Sides.{volume_of, sides_ok}
 use Rattle.bin_section.specs.Section.{section_words}
@@ -190,7 +190,7 @@ module _ (whd : WidthHeightDepth) (placed free : List ℕ) (a : box_lists_ok (le
       (earlier_space boxes j (omega (arith, p.first.below)) (some→shares boxes j p.first.earlier p.first.less p.first.shares))
 
 -- any other reply than 17 hands on none, on every input
-pub audit_none : (whd : WidthHeightDepth) (placed free : List ℕ) → ((audit_of whd placed free).reply.number ≡ 17 → ⊥) → (audit_of whd placed free).common ≡ overlap.Apart
+pub audit_none : (whd : WidthHeightDepth) (placed free : List ℕ) → ((audit_of whd placed free).reply.number ≡ 17 → ⊥) → (audit_of whd placed free).common ≡ Nothing
 unfolding audit_of audit_answer audit_common
 audit_none whd placed free ne = cond_no _ _ (eqb (audit_reply whd placed free).number 17) (ne_eqb _ _ ne)
 

@@ -4,25 +4,25 @@ use mathlib.Core.Path.{◌≡◌, refl, sym, ap, ◌∙◌, subst}
 use mathlib.Core.List.{List, [], ◌++◌}
 use mathlib.Core.Bool.{Bool, true, false, not, ◌&&◌, ◌||◌}
 use native.Mathlib.Omega.{arith}
-use borrow.Author.Tests.{lt-ltb, le-ltb, ltb-true, leb-true, eqb-true, eq-eqb, ne_eqb, not-false}
+use borrow.Author.Tests.{lt-ltb, le-ltb, ltb-true, leb-true, eqb-true, not-false}
 use lib.Dec.{eqb, ltb, leb}
 use lib.ListN.{length, take, drop}
 use Rattle.lists.specs.Lowest.{lowest}
 use Rattle.lists.proofs.Flags.{true_false, and_first, and_second}
 use Rattle.bin_section.specs.declared.width_height_depth.WidthHeightDepth.{WidthHeightDepth}
 use Rattle.bin_section.specs.declared.section.BinSection.{BinSection}
-use Rattle.bin_section.specs.declared.overlaps.Common.{Common}
-use Rattle.bin_section.specs.Overlap.{common_words}
+use Rattle.std.proofs.Common.{Option, Some, None}
+use Rattle.std.proofs.lemmas.Option.{cond_some, none-some}
 use Rattle.replies.specs.declared.reply.Reply.{Reply}
 use Rattle.sections.specs.declared.common_reply.CommonReply.{CommonReply}
 use Rattle.bin_section.specs.Sides.{volume_of, sides_ok}
 use Rattle.replies.specs.Replies.{reply, in_order}
-use Rattle.sections.specs.Common.{common_reply, plain_reply, earliest_common}
 use Rattle.replies.proofs.Ladders.{fires, passes, past, past_all, of_each}
 use Rattle.bin_section.specs.Inside.{outside}
 use Rattle.cells.specs.Whole.{box_at, volumes}
 use Rattle.sections.specs.Inside.{shares_earlier}
-use Rattle.audit.specs.Audit.{audit_boxes, box_lists_ok, audit_checks, audit_reply, audit_common, audit_answer, shown_of, audit_of}
+use Rattle.audit.specs.Audit.{audit_boxes, box_lists_ok, audit_checks, audit_reply, audit_answer, shown_of, audited_with, audit_of}
+use Rattle.audit.specs.Leaning.{NamesOneOf, faulty_box}
 use Rattle.audit.proofs.TwoLists.{boxes_length}
 
 -- what lengths that pass check 1 have
@@ -108,30 +108,34 @@ module _ (whd : WidthHeightDepth) (placed free : List ℕ) (r : Reply) (e : r �
   pub shared_box : r.number ≡ 17 → r.detail < length placed / 6 + length free / 6
   shared_box h = (named_box (rw h refl)).1
 
-  -- the reply with its common box
-  pub answer_plain : (a : CommonReply) → (r.number ≡ 17 → ⊥) → a ≡ plain_reply r → a ≡ audit_answer whd placed free
-  unfolding audit_answer audit_common
-  answer_plain a ne p = rw (p, ← e, ne_eqb r.number 17 ne)
+-- what a refusal hands on is of a box that is there
+pub names_one : (whd : WidthHeightDepth) (placed free : List ℕ) (all : List BinSection) (r : Reply) → r ≡ audit_reply whd placed free → all ≡ audit_boxes placed free → NamesOneOf all r
+names_one whd placed free all r e view n = omega (arith, shared_box whd placed free r e n, boxes_length placed free, ap length view)
 
-  pub answer_common : (a : CommonReply) → r.number ≡ 17 → (c : Common) → c ≡ earliest_common (audit_boxes placed free) r.detail → a ≡ common_reply r c → a ≡ audit_answer whd placed free
-  unfolding audit_answer audit_common
-  answer_common a h c f p = rw (p, f, ← e, eq-eqb r.number 17 h)
+-- ---- the parts of an audit, by the index of the box that its reply names
 
--- ---- the parts of an audit
-
-module _ (whd : WidthHeightDepth) (placed free : List ℕ) (a : CommonReply) (e : a ≡ audit_answer whd placed free) where
-  pub audit-replied : a.reply ≡ audit_reply whd placed free
+module _ (whd : WidthHeightDepth) (placed free : List ℕ) (a : CommonReply) (e : a ≡ audit_answer whd placed free) (o : Option ℕ) (f : o ≡ faulty_box a.reply) where
+  audit-replied : a.reply ≡ audit_reply whd placed free
   unfolding audit_answer
   audit-replied = ap (λ (q : CommonReply). q.reply) e
 
-  pub audit_common_of : (w : List ℕ) (c : Common) → c ≡ a.common → w ≡ common_words c → w ≡ common_words (audit_of whd placed free).common
-  unfolding audit_of
-  audit_common_of w c h k = k ∙ ap (λ (x : Common). common_words x) (h ∙ ap (λ (q : CommonReply). q.common) e)
+  named_at : (i : ℕ) → o ≡ Some i → (names_box a.reply ≡ true) × (a.reply.detail ≡ i)
+  named_at i h = cond_some _ _ _ (sym f ∙ h)
 
-  pub audit_named : (words : List ℕ) → names_box a.reply ≡ true → words ≡ take 6 (drop (a.reply.detail * 6) (placed ++ free)) → words ≡ (audit_of whd placed free).shown
-  unfolding audit_of shown_of
-  audit_named words h w = rw (← audit-replied, h, w)
+  pub audit_at : (i : ℕ) → o ≡ Some i → a.reply.detail ≡ i
+  audit_at i h = (named_at i h).1
 
-  pub audit_silent : names_box a.reply ≡ false → [] ≡ (audit_of whd placed free).shown
+  pub audit_lies : (i : ℕ) → o ≡ Some i → (length placed % 6 ≡ 0) × (i < length placed / 6 + length free / 6)
+  audit_lies i h = let n = named_at i h in rw n.1 at (named_box whd placed free a.reply audit-replied n.0)
+
+  pub audit_named : (words : List ℕ) (i : ℕ) → o ≡ Some i → words ≡ take 6 (drop (i * 6) (placed ++ free)) → audited_with a words ≡ audit_of whd placed free
   unfolding audit_of shown_of
-  audit_silent h = rw (← audit-replied, h)
+  audit_named words i h w = let n = named_at i h in rw (← e, ← audit-replied, n.0, n.1, w) refl
+
+  pub audit_silent : o ≡ None → audited_with a [] ≡ audit_of whd placed free
+  unfolding audit_of shown_of
+  audit_silent h = go (names_box a.reply) refl
+    where
+      go : (t : Bool) → names_box a.reply ≡ t → audited_with a [] ≡ audit_of whd placed free
+      go true t = absurd (none-some a.reply.detail (sym h ∙ f ∙ rw t))
+      go false t = rw (← e, ← audit-replied, t) refl

@@ -1,9 +1,7 @@
 -- The audit of one chamber: its checks in their order, its reply, the common box that it hands on, and the words that it shows.
-use Rattle.std.specs.Prelude.{ℕ, ◌+◌, ◌*◌, ◌/◌, ◌%◌, List, [], ◌∷◌, ◌++◌, Bool, not, ◌&&◌, ◌||◌, cond, eqb, leb, length, take, drop}
+use Rattle.std.specs.Prelude.{ℕ, ◌+◌, ◌*◌, ◌/◌, ◌%◌, List, [], ◌∷◌, ◌++◌, Bool, not, ◌&&◌, ◌||◌, cond, eqb, leb, length, take, drop, Option, None}
 use Rattle.bin_section.specs.declared.width_height_depth.WidthHeightDepth.{WidthHeightDepth}
 use Rattle.bin_section.specs.declared.section.BinSection.{BinSection}
-use Rattle.bin_section.specs.declared.overlaps.Common.{Common}
-use Rattle.bin_section.specs.declared.overlaps.Common.TheVariants.{Apart}
 use Rattle.replies.specs.declared.reply.Reply.{Reply}
 use Rattle.sections.specs.declared.common_reply.CommonReply.{CommonReply}
 use Rattle.bin_section.specs.Sides.{volume_of, sides_ok}
@@ -47,8 +45,8 @@ shown_of placed free r =
     cond (eqb r.number 16 || eqb r.number 17) (take 6 (drop (r.detail * 6) (placed ++ free))) []
 
 -- "audit with 17 .. hand it on beside the detail, .. for the earliest box that the named one meets"; otherwise none
-unfoldable pub audit_common : List BinSection → Reply → Common
-audit_common boxes r = cond (eqb r.number 17) (earliest_common boxes r.detail) Apart
+unfoldable pub audit_common : List BinSection → Reply → Option BinSection
+audit_common boxes r = cond (eqb r.number 17) (earliest_common boxes r.detail) None
 
 -- the reply with the common box
 unfoldable pub audit_answer : WidthHeightDepth → List ℕ → List ℕ → CommonReply
@@ -58,7 +56,7 @@ audit_answer whd placed free =
 
 pub record Audited : Type 0 where
   pub reply : Reply
-  pub common : Common
+  pub common : Option BinSection
   pub shown : List ℕ
 
 abbrev pub audited_with : CommonReply → List ℕ → Audited

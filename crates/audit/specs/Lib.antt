@@ -1,3 +1,4 @@
 pub mod Audit
 pub mod Meaning
 pub mod Place
+pub mod Leaning

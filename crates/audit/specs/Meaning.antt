@@ -1,10 +1,8 @@
 -- What the replies of an audit mean in unit cells, past checks 1 and 2. It is proved in proofs/Means.antt.
-use Rattle.std.specs.Prelude.{ℕ, ◌<◌, ◌≡◌, ◌⊎◌, ◌↔◌, List, length, take}
+use Rattle.std.specs.Prelude.{ℕ, ◌<◌, ◌≡◌, ◌⊎◌, ◌↔◌, List, length, take, Option, None}
 use Rattle.bin_section.specs.declared.width_height_depth.WidthHeightDepth.{WidthHeightDepth}
 use Rattle.bin_section.specs.declared.section.BinSection.{BinSection}
 use Rattle.replies.specs.declared.reply.Reply.{Reply}
-use Rattle.bin_section.specs.declared.overlaps.Common.{Common}
-use Rattle.bin_section.specs.declared.overlaps.Common.TheVariants as overlap
 use Rattle.sections.specs.Common.{EarliestSpace, FirstToShare}
 use Rattle.replies.specs.Replies.{reply}
 use Rattle.cells.specs.Whole.{box_at, Inside, AllInside, Apart, Whole, Gap}
@@ -31,7 +29,7 @@ abbrev pub Given : Reply → Type 0
 Given r = (r ≡ reply 0 0) ⊎ (((i : ℕ) × (r ≡ reply 16 i)) ⊎ (((j : ℕ) × (r ≡ reply 17 j)) ⊎ (r ≡ reply 18 0)))
 
 -- and each of them "exactly when" what stands beside it holds; a common box is handed on with 17 alone
-pub record AuditMeans (whd : WidthHeightDepth) (boxes : List BinSection) (r : Reply) (common : Common) : Type 0 where
+pub record AuditMeans (whd : WidthHeightDepth) (boxes : List BinSection) (r : Reply) (common : Option BinSection) : Type 0 where
   pub given : Given r
   pub whole : (r ≡ reply 0 0) ↔ Whole whd boxes
   pub outside : (i : ℕ) → (r ≡ reply 16 i) ↔ FirstOutside whd boxes i
@@ -40,4 +38,4 @@ pub record AuditMeans (whd : WidthHeightDepth) (boxes : List BinSection) (r : Re
   -- "for the earliest box that the named one meets": it is one of those before the named one
   pub space : (j : ℕ) → r ≡ reply 17 j → (i : ℕ) × EarliestSpace (take j boxes) (box_at boxes j) i common
   -- "or none"
-  pub no_space : ((j : ℕ) → ¬ (r ≡ reply 17 j)) → common ≡ overlap.Apart
+  pub no_space : ((j : ℕ) → ¬ (r ≡ reply 17 j)) → common ≡ None

@@ -1,16 +1,23 @@
-// What the replies 16, 17 and 18 test of the boxes, and the space that 17 hands on: indices run through the placed list, then the free list.
-ghost use Rattle.std.specs.Prelude.{◌≡◌, ◌+◌, ◌/◌, ◌≤◌, ◌<◌, eqb, length};
-ghost use Rattle.lists.specs.Lowest.{lowest};
+// What the replies 16, 17 and 18 test of the boxes, and the space that 17 hands on.
+ghost use Rattle.std.specs.Prelude.{◌≡◌, ◌+◌, ◌/◌, ◌≤◌, ◌<◌, eqb, length, List};
+ghost use Rattle.lists.specs.Lowest.{lowest_index};
+ghost use Rattle.replies.specs.Replies.{refusal_reply};
+ghost use Rattle.bin_section.specs.declared.section.BinSection.{BinSection};
 ghost use Rattle.bin_section.specs.Sides.{volume_of};
 ghost use Rattle.bin_section.specs.Leaning.{Small};
 ghost use Rattle.bin_section.specs.Inside.{outside};
 ghost use Rattle.cells.specs.Whole.{box_at, AllInside, volumes};
 ghost use Rattle.sections.specs.Inside.{shares_earlier};
 ghost use Rattle.sections.specs.Common.{earliest_common};
-ghost use Rattle.audit.specs.Audit.{audit_boxes};
+ghost use Rattle.audit.specs.Audit.{audit_boxes, audit_common};
+ghost use Rattle.audit.specs.Leaning.{NamesOneOf};
 
-use bin_section::{BinSection, Common, WidthHeightDepth};
-use sections::{first_common, first_sharing, sum_of_volumes};
+use bin_section::{BinSection, WidthHeightDepth, inside};
+use lists::lowest_index;
+use replies::Refusal;
+use sections::{first_common, sum_of_volumes};
+use std::marker::Model;
+use words::Record;
 
 // How many boxes a list of six words each has.
 pub fn boxes_in(words: &[u32]) -> usize
@@ -19,87 +26,92 @@ pub fn boxes_in(words: &[u32]) -> usize
     words.len() / BinSection::WORDS
 }
 
-// How many boxes the two lists have together.
-pub fn boxes_in_both(placed: &[u32], free: &[u32]) -> usize
-    ensures { length (audit_boxes placed.now free.now) ≡ result }
-{
-    boxes_in(placed) + boxes_in(free)
+// The boxes of both lists: indices run through the placed list, then the free list.
+#[derive(Drop)]
+pub struct Boxes<'a> {
+    placed: &'a [u32],
+    free: &'a [u32],
 }
 
-// The lowest box that has a zero side or reaches past the chamber; the number of boxes where none does.
-pub fn first_outside(whd: WidthHeightDepth, placed: &[u32], free: &[u32]) -> usize
-    ensures { result ≡ lowest (length (audit_boxes placed.now free.now)) (λ i. outside whd (box_at (audit_boxes placed.now free.now) i)) }
-{
-    let first = boxes_in(placed);
-    let out = sections::first_outside(placed, first, whd);
-    if out < first {
-        return out;
+impl<'a> Model for Boxes<'a> {
+    ghost Value = { List BinSection };
+
+    ghost view = { λ b. audit_boxes b.placed.now b.free.now };
+}
+
+impl<'a> Boxes<'a> {
+    pub fn new(placed: &'a [u32], free: &'a [u32]) -> Boxes<'a>
+        ensures { result ≡ audit_boxes placed.now free.now }
+    {
+        Boxes { placed, free }
     }
-    first + sections::first_outside(free, boxes_in(free), whd)
-}
 
-// Whether free box k shares a cell with a placed one or an earlier free one.
-fn free_shares(placed: &[u32], free: &[u32], k: usize) -> bool
-    requires { k < length free.now / 6 }
-    ensures { result ≡ shares_earlier (audit_boxes placed.now free.now) (length placed.now / 6 + k) }
-{
-    let first = boxes_in(placed);
-    let section = BinSection::read(free, k);
-    if first_sharing(placed, first, section) < first {
-        return true;
+    // How many there are.
+    #[tactic(auto, using(crate::proofs::TwoLists::boxes_length))]
+    pub fn count(&self) -> usize
+        ensures { result ≡ length self.now }
+    {
+        boxes_in(self.placed) + boxes_in(self.free)
     }
-    first_sharing(free, k, section) < k
-}
 
-// The lowest such free box; their number where none does.
-fn first_free_shared(placed: &[u32], free: &[u32]) -> usize
-    ensures { result ≡ lowest (length free.now / 6) (λ k. shares_earlier (audit_boxes placed.now free.now) (length placed.now / 6 + k)) }
-{
-    let n = boxes_in(free);
-    for k in 0..n {
-        if free_shares(placed, free, k) {
-            return k;
+    #[tactic(auto, using(crate::proofs::TwoLists::boxes_length, crate::proofs::TwoLists::box_placed, crate::proofs::TwoLists::box_behind))]
+    fn at(&self, i: usize) -> BinSection
+        requires { i < length self.now }
+        ensures { result ≡ box_at self.now i }
+    {
+        let first = boxes_in(self.placed);
+        if i < first {
+            return BinSection::read(self.placed, i);
+        }
+        BinSection::read(self.free, i - first)
+    }
+
+    // The lowest box that has a zero side or reaches past the chamber.
+    pub fn first_outside(&self, whd: WidthHeightDepth) -> Option<usize>
+        ensures { result ≡ lowest_index (length self.now) (λ i. outside whd (box_at self.now i)) }
+    {
+        lowest_index(self.count(), |i| !inside(self.at(i), whd))
+    }
+
+    // The common box of box j and the earliest box that it meets. Those before it are looked through, the placed list first.
+    #[tactic(auto, using(crate::proofs::TwoLists::boxes_length))]
+    pub fn earliest_common(&self, j: usize) -> Option<BinSection>
+        requires { j < length self.now }
+        ensures { result ≡ earliest_common self.now j }
+    {
+        let section = self.at(j);
+        let first = boxes_in(self.placed).min(j);
+        let among_placed = first_common(self.placed, first, section);
+        among_placed.or_else(|| first_common(self.free, j - first, section))
+    }
+
+    // The common box that a refusal hands on: with 17 that of the box that the detail names and the earliest box that it meets.
+    #[tactic(auto, unfolding(crate::specs::Audit::audit_common))]
+    pub fn common_of(&self, refusal: Refusal) -> Option<BinSection>
+        requires { NamesOneOf self.now (refusal_reply refusal) }
+        ensures { result ≡ audit_common self.now (refusal_reply refusal) }
+    {
+        match refusal {
+            Refusal::Shared(j) => self.earliest_common(j as usize),
+            _ => None,
         }
     }
-    n
-}
 
-// The lowest box that shares a cell with an earlier one; the number of boxes where none does.
-pub fn first_shared(placed: &[u32], free: &[u32]) -> usize
-    ensures { result ≡ lowest (length (audit_boxes placed.now free.now)) (shares_earlier (audit_boxes placed.now free.now)) }
-{
-    let first = boxes_in(placed);
-    let shared = sections::first_shared(placed, first);
-    if shared < first {
-        return shared;
+    // The lowest box that shares a cell with an earlier one.
+    #[tactic(auto, using(crate::proofs::TwoLists::earliest_is))]
+    pub fn first_shared(&self) -> Option<usize>
+        ensures { result ≡ lowest_index (length self.now) (shares_earlier self.now) }
+    {
+        lowest_index(self.count(), |j| self.earliest_common(j).is_some())
     }
-    first + first_free_shared(placed, free)
-}
 
-// The common box of box j and the earliest box that it meets. Those before it are looked through, the placed list first.
-pub fn earliest_common(placed: &[u32], free: &[u32], j: usize) -> Common
-    requires { j < length placed.now / 6 + length free.now / 6 }
-    ensures { result ≡ earliest_common (audit_boxes placed.now free.now) j }
-{
-    let first = boxes_in(placed);
-    if j < first {
-        return first_common(placed, j, BinSection::read(placed, j));
+    // Whether the volumes of boxes that lie inside sum to the chamber's. The sum of 1,024 of them fits 64 bits.
+    pub fn fill(&self, whd: WidthHeightDepth) -> bool
+        requires { Small whd × (length self.now ≤ 1024) × AllInside whd self.now }
+        ensures { result ≡ eqb (volumes self.now) (volume_of whd) }
+    {
+        let of_placed = sum_of_volumes(self.placed, boxes_in(self.placed));
+        let of_free = sum_of_volumes(self.free, boxes_in(self.free));
+        of_placed + of_free == whd.volume()
     }
-    let k = j - first;
-    let section = BinSection::read(free, k);
-    let common = first_common(placed, first, section);
-    let Common::Apart = common else {
-        return common;
-    };
-    first_common(free, k, section)
-}
-
-// Whether the volumes of boxes that lie inside sum to the chamber's. The sum of 1,024 of them fits 64 bits.
-pub fn fills(whd: WidthHeightDepth, placed: &[u32], free: &[u32]) -> bool
-    requires { Small whd × (length placed.now / 6 + length free.now / 6 ≤ 1024) × AllInside whd (audit_boxes placed.now free.now) }
-    ensures { result ≡ eqb (volumes (audit_boxes placed.now free.now)) (volume_of whd) }
-{
-    let of_placed = sum_of_volumes(placed, boxes_in(placed));
-    let of_free = sum_of_volumes(free, boxes_in(free));
-    of_placed + of_free == whd.volume()
 }

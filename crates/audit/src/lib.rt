@@ -2,69 +2,69 @@
 #![tactic(auto)]
 
 ghost use Rattle.std.specs.Prelude.{◌≡◌, ◌+◌, ◌*◌, ◌/◌, ◌%◌, ◌<◌, length, take, drop, ◌++◌};
-ghost use Rattle.bin_section.specs.Overlap.{common_words};
-ghost use Rattle.replies.specs.Replies.{reply};
-ghost use Rattle.audit.specs.Audit.{box_lists_ok, audit_reply, audit_answer, audit_of};
+ghost use Rattle.replies.specs.Replies.{job_reply};
+ghost use Rattle.sections.specs.Common.{common_job_reply};
+ghost use Rattle.audit.specs.Audit.{box_lists_ok, audit_reply, audit_answer, audited_with, audit_of};
 ghost use Rattle.audit.specs.Place.{LiesAt, ShownAt};
+ghost use Rattle.audit.specs.Leaning.{faulty_box};
 
 mod checks;
 
 use bin_section::{BinSection, WidthHeightDepth};
-use checks::{boxes_in, boxes_in_both, earliest_common, fills, first_outside, first_shared};
-use replies::Reply;
-use sections::CommonReply;
+use checks::{Boxes, boxes_in};
+use replies::Refusal;
+use sections::CommonRefusal;
 
-// The audit's limit.
-#[derive(Clone, Copy)]
-pub struct ChamberAudit {}
+// "at most 1,024 boxes together"
+const MOST_BOXES: usize = 1024;
 
-impl ChamberAudit {
-    // "at most 1,024 boxes together"
-    pub const MOST_BOXES: usize = 1024;
-}
-
+// Of the two lists as the caller lends them: Boxes is seen as whole boxes, and knows no words that are left over and no place in memory.
+#[tactic(auto, unfolding(crate::specs::Audit::box_lists_ok))]
 fn lengths_ok(placed: &[u32], free: &[u32]) -> bool
     ensures { result ≡ box_lists_ok (length placed.now) (length free.now) }
 {
     (placed.len() % BinSection::WORDS == 0)
         & ((free.len() % BinSection::WORDS == 0)
-            & (boxes_in(placed) + boxes_in(free) <= ChamberAudit::MOST_BOXES))
+            & (boxes_in(placed) + boxes_in(free) <= MOST_BOXES))
 }
 
-// The reply of an audit: the first check that fires answers, else the chamber is whole.
-pub fn audit_reply(whd: WidthHeightDepth, placed: &[u32], free: &[u32]) -> Reply
-    ensures { result ≡ audit_reply whd placed.now free.now }
+// Whether a chamber is whole; else the first check that fires refuses it.
+pub fn audit_reply(whd: WidthHeightDepth, placed: &[u32], free: &[u32]) -> Result<(), Refusal>
+    ensures { job_reply result ≡ audit_reply whd placed.now free.now }
 {
     if !lengths_ok(placed, free) {
-        return Reply::new(Reply::BAD_LENGTH, 0);
+        return Err(Refusal::BadLength);
     }
     if !whd.in_range() {
-        return Reply::new(Reply::BAD_CHAMBER, 0);
+        return Err(Refusal::BadChamber(0));
     }
-    let n = boxes_in_both(placed, free);
-    let out = first_outside(whd, placed, free);
-    if out < n {
-        return Reply::new(Reply::OUTSIDE, out as u32);
+    let boxes = Boxes::new(placed, free);
+    if let Some(out) = boxes.first_outside(whd) {
+        return Err(Refusal::Outside(out as u32));
     }
-    let shared = first_shared(placed, free);
-    if shared < n {
-        return Reply::new(Reply::SHARED, shared as u32);
+    if let Some(shared) = boxes.first_shared() {
+        return Err(Refusal::Shared(shared as u32));
     }
-    if !fills(whd, placed, free) {
-        return Reply::new(Reply::GAP, 0);
+    if !boxes.fill(whd) {
+        return Err(Refusal::Gap);
     }
-    Reply::new(Reply::DONE, 0)
+    Ok(())
 }
 
-// The reply, and with 17 the common box of the box that the detail names and the earliest box that it meets.
-pub fn audit_answer(whd: WidthHeightDepth, placed: &[u32], free: &[u32]) -> CommonReply
-    ensures { result ≡ audit_answer whd placed.now free.now }
+// The same, with the common box that a refusal hands on.
+#[tactic(auto, using(crate::proofs::Replying::names_one), unfolding(crate::specs::Audit::audit_answer, crate::specs::Audit::audit_common))]
+pub fn audit_answer(
+    whd: WidthHeightDepth,
+    placed: &[u32],
+    free: &[u32],
+) -> Result<(), CommonRefusal>
+    ensures { common_job_reply result ≡ audit_answer whd placed.now free.now }
 {
-    let reply = audit_reply(whd, placed, free);
-    if reply.number != Reply::SHARED {
-        return CommonReply::plain(reply);
-    }
-    CommonReply::new(reply, earliest_common(placed, free, reply.detail as usize))
+    let Err(refusal) = audit_reply(whd, placed, free) else {
+        return Ok(());
+    };
+    let common = Boxes::new(placed, free).common_of(refusal);
+    Err(CommonRefusal { refusal, common })
 }
 
 // The six words of box i where they lie: in the placed list, or past its boxes in the free list.
@@ -83,28 +83,38 @@ fn words_of_box<'a>(placed: &'a [u32], free: &'a [u32], i: usize) -> &'a [u32]
     &free[at..end]
 }
 
-// Audit a chamber. The reply goes through number and detail, the common box that 17 hands on through six words, which are zeros where there
-// is none; the part that is returned shows the faulty box of replies 16 and 17. Who needs the reply alone calls audit_reply, and who needs
-// no part audit_answer.
-pub fn audit<'a>(
-    whd: WidthHeightDepth,
-    placed: &'a [u32],
-    free: &'a [u32],
-    number: &mut u32,
-    detail: &mut u32,
-    common: &mut [u32; BinSection::WORDS],
-) -> &'a [u32]
-    ensures detail_after { (reply number.new detail.new ≡ (audit_of whd placed.now free.now).reply) × (common.new ≡ common_words (audit_of whd placed.now free.now).common) }
-    ensures result_value { (result.now ≡ (audit_of whd placed.now free.now).shown) × ShownAt (length placed.now / 6) placed.entry.ref_ptr free.entry.ref_ptr (reply number.new detail.new) result.ref_ptr }
+// The index of the faulty box that 16 and 17 name.
+fn faulty_box(answer: Result<(), CommonRefusal>) -> Option<u32>
+    ensures { result ≡ faulty_box (common_job_reply answer).reply }
+{
+    match answer.err()?.refusal {
+        Refusal::Outside(i) | Refusal::Shared(i) => Some(i),
+        _ => None,
+    }
+}
+
+// What an audit answers, and the part of a list that it shows.
+#[derive(Clone, Copy)]
+pub struct Audited<'a> {
+    pub answer: Result<(), CommonRefusal>,
+    pub shown: &'a [u32],
+}
+
+// Audit a chamber. The part shows the faulty box of replies 16 and 17. Who needs the reply alone calls audit_reply, and who needs no part
+// audit_answer.
+pub fn audit<'a>(whd: WidthHeightDepth, placed: &'a [u32], free: &'a [u32]) -> Audited<'a>
+    ensures answer_value { audited_with (common_job_reply result.answer) result.shown.now ≡ audit_of whd placed.now free.now }
+    ensures shown_at { ShownAt (length placed.now / 6) placed.entry.ref_ptr free.entry.ref_ptr (common_job_reply result.answer).reply result.shown.ref_ptr }
 {
     let answer = audit_answer(whd, placed, free);
-    let space = answer.common;
-    space.write(common);
-    let reply = answer.reply;
-    *number = reply.number;
-    *detail = reply.detail;
-    if (reply.number == Reply::OUTSIDE) | (reply.number == Reply::SHARED) {
-        return words_of_box(placed, free, reply.detail as usize);
+    let Some(i) = faulty_box(answer) else {
+        return Audited {
+            answer,
+            shown: &placed[..0],
+        };
+    };
+    Audited {
+        answer,
+        shown: words_of_box(placed, free, i as usize),
     }
-    &placed[..0]
 }

@@ -1,24 +1,21 @@
 -- Which reply an input gets, and that an input longer than the longest may be cut.
-use Prim.Native.Nat.{ℕ, ◌+◌, ◌*◌, ◌-◌, ◌/◌, ◌%◌, ◌<◌}
-use mathlib.Core.Path.{◌≡◌, refl, ap}
+use Prim.Native.Nat.{ℕ, ◌+◌, ◌*◌, ◌/◌, ◌%◌, ◌<◌}
+use mathlib.Core.Path.{◌≡◌, ap}
 use mathlib.Core.Logic.{◌⊎◌, inl, inr}
 use mathlib.Core.List.{List}
 use mathlib.Core.Bool.{true, false, not, ◌&&◌}
-use native.Mathlib.Nat.{sub-zero}
 use native.Mathlib.Omega.{arith}
 use borrow.Author.Tests.{lt-leb}
 use lib.Dec.{eqb, leb}
 use lib.ListN.{length, take, drop}
 use Rattle.lists.proofs.Flags.{and_no_second}
-use Rattle.bin_section.specs.declared.width_height_depth.WidthHeightDepth.{WidthHeightDepth}
 use Rattle.replies.specs.declared.reply.Reply.{Reply}
 use Rattle.replies.specs.Replies.{reply}
 use Rattle.replies.proofs.Ladders.{fires}
 use Rattle.wire.proofs.Filling.{length-words_in}
 use Rattle.audit.specs.Audit.{box_lists_ok, audit_reply}
 use Rattle.box_input.specs.declared.InputHead.{InputHead}
-use Rattle.box_input.specs.declared.BoxInput.{BoxInput}
-use Rattle.box_input.specs.declared.BoxInput.TheVariants.{Boxes, NoInput}
+use Rattle.std.proofs.Common.{Option, Some, None}
 use Rattle.box_input.specs.Input.{input_chamber, input_placed_count, input_free_count, input_placed, input_free, is_input}
 use Rattle.box_input.specs.Read.{input_read, input_of}
 use Rattle.box_input.proofs.Reading.{none_read, was_read, cut_input}
@@ -33,26 +30,19 @@ module _ (b : List ℕ) where
   unfolding input_reply
   reply_input h = rw h
 
-  module _ (p₀ f₀ p f : List ℕ) (input : BoxInput) (e : input_read input p f ≡ input_of b p₀ f₀) where
-    pub reply_unread : input ≡ NoInput → reply 1 0 ≡ input_reply b
+  module _ (p₀ f₀ p f : List ℕ) (input : Option InputHead) (e : input_read input p f ≡ input_of b p₀ f₀) where
+    pub reply_unread : input ≡ None → reply 1 0 ≡ input_reply b
     reply_unread n = reply_none (none_read b p₀ f₀ p f input e n)
 
     -- the audit of the words that were read
     pub reply_boxes :
         (said : InputHead) (r : Reply)
-        → input ≡ Boxes said
+        → input ≡ Some said
         → r ≡ audit_reply said.whd (take (said.placed * 6) p) (take (said.free * 6) f)
         → r ≡ input_reply b
     reply_boxes said r n q =
         let w = was_read b p₀ f₀ p f input e said n in
         rw (q, w.placed_words, w.free_words, w.head) (reply_input w.input)
-
--- the front parts of two tables
-pub reply-front :
-    (whd : WidthHeightDepth) (p f : List ℕ) (m n : ℕ) (r : Reply)
-    → r ≡ audit_reply whd (take (m - 0) (drop 0 p)) (take (n - 0) (drop 0 f))
-    → r ≡ audit_reply whd (take m p) (take n f)
-reply-front whd p f m n r e = rw (e, sub-zero m, sub-zero n) refl
 
 -- ---- a program need read no more than one byte past the longest input
 

@@ -1,47 +1,26 @@
-// The line: a fixed name by reply number, the index of replies 16 and 17, a newline.
-ghost use Rattle.std.specs.Prelude.{◌≡◌, ◌+◌, ◌≤◌, length};
-ghost use Rattle.text.specs.Written.{Written};
-ghost use Rattle.audit_input.specs.Line.{name_of, index_of, line_for, Wrote};
+// The line of what the audit answers.
+ghost use Rattle.std.specs.Prelude.{Some};
+ghost use Rattle.replies.specs.Replies.{job_reply};
+ghost use Rattle.audit_input.specs.Line.{line_for};
 
-use replies::Reply;
-use text::{write_item, write_text};
+use replies::Refusal;
+use std::fmt;
 
-// At most seven bytes.
-fn write_name(line: &mut [u8], number: u32) -> usize
-    requires { 7 ≤ length line.old }
-    ensures { Written 0 (name_of number) line.old line.new result × (result ≤ 7) }
-{
-    if number == Reply::DONE {
-        return write_text(line, 0, b"WHOLE");
-    }
-    if number == Reply::OUTSIDE {
-        return write_text(line, 0, b"OUTSIDE");
-    }
-    if number == Reply::SHARED {
-        return write_text(line, 0, b"SHARED");
-    }
-    if number == Reply::GAP {
-        return write_text(line, 0, b"GAP");
-    }
-    write_text(line, 0, b"BAD")
-}
+// What the audit answers to an input. It is displayed as the line: a fixed name, the box's index where one is named, a newline.
+#[derive(Clone, Copy)]
+pub struct Line(pub Result<(), Refusal>);
 
-// A space and at most ten digits.
-fn write_index(line: &mut [u8], at: usize, answer: Reply) -> usize
-    requires { at + 11 ≤ length line.old }
-    ensures { Written at (index_of answer) line.old line.new result × (result ≤ at + 11) }
-{
-    if (answer.number == Reply::OUTSIDE) | (answer.number == Reply::SHARED) {
-        return write_item(line, at, b" ", answer.detail);
-    }
-    at
-}
+impl fmt::Display for Line {
+    ghost output = { λ line. Some (line_for (job_reply line.0)) };
 
-pub fn write_line(line: &mut [u8], answer: Reply) -> usize
-    requires { length line.old ≡ 19 }
-    ensures { Wrote (line_for answer) line.old line.new result }
-{
-    let name = write_name(line, answer.number);
-    let index = write_index(line, name, answer);
-    write_text(line, index, b"\n")
+    #[tactic(auto, using(text::proofs::Displaying::decimal_std), unfolding(crate::specs::Line::line_for))]
+    fn fmt<W: fmt::Write>(&self, f: &mut fmt::Formatter<W>) -> fmt::Result {
+        match self.0 {
+            Ok(()) => f.write_str("WHOLE\n"),
+            Err(Refusal::Outside(n)) => write!(f, "OUTSIDE {n}\n"),
+            Err(Refusal::Shared(n)) => write!(f, "SHARED {n}\n"),
+            Err(Refusal::Gap) => f.write_str("GAP\n"),
+            Err(_) => f.write_str("BAD\n"),
+        }
+    }
 }

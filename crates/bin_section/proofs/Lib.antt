@@ -2,4 +2,3 @@ pub mod Bounding
 pub mod Ranges
 pub mod Sharing
 pub mod Volume
-pub mod Words

@@ -1,8 +1,6 @@
 -- Unit cells: what it means that a cell lies in a box, that two boxes share a cell, and that they have a common box.
-use Rattle.std.specs.Prelude.{ℕ, ◌+◌, ◌≤◌, ◌<◌, ◌↔◌}
+use Rattle.std.specs.Prelude.{ℕ, ◌+◌, ◌≤◌, ◌<◌, ◌↔◌, Option, Some, None}
 use Rattle.bin_section.specs.declared.section.BinSection.{BinSection}
-use Rattle.bin_section.specs.declared.overlaps.Common.{Common}
-use Rattle.bin_section.specs.declared.overlaps.Common.TheVariants.{Shared, Apart}
 
 -- c is one of the s numbers from o on
 abbrev pub Within : ℕ → ℕ → ℕ → Type 0
@@ -30,6 +28,6 @@ pub record SharedSpace (a b box : BinSection) : Type 0 where
   pub cells : (cx cy cz : ℕ) → HasCell box cx cy cz ↔ (HasCell a cx cy cz × HasCell b cx cy cz)
 
 -- "the common box, or none": what each case of the overlap test's answer means
-abbrev pub CommonMeans : BinSection → BinSection → Common → Type 0
-CommonMeans a b (Shared box) = SharedSpace a b box
-CommonMeans a b Apart = ¬ (SharesCell a b)
+abbrev pub CommonMeans : BinSection → BinSection → Option BinSection → Type 0
+CommonMeans a b (Some box) = SharedSpace a b box
+CommonMeans a b None = ¬ (SharesCell a b)

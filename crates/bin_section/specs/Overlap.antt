@@ -1,9 +1,7 @@
 -- The overlap test: whether two boxes share a cell, and the common box that it answers. That both are exact is proved beside them
 -- (proofs/Sharing.antt).
-use Rattle.std.specs.Prelude.{ℕ, ◌+◌, ◌-◌, min, max, Bool, ◌&&◌, cond, List, ltb}
+use Rattle.std.specs.Prelude.{ℕ, ◌+◌, ◌-◌, min, max, Bool, ◌&&◌, cond, List, ltb, Option, Some, None, unwrap_or}
 use Rattle.bin_section.specs.declared.section.BinSection.{BinSection}
-use Rattle.bin_section.specs.declared.overlaps.Common.{Common}
-use Rattle.bin_section.specs.declared.overlaps.Common.TheVariants.{Shared, Apart}
 use Rattle.bin_section.specs.Sides.{sides}
 use Rattle.bin_section.specs.Section.{section, section_words, zero_section}
 
@@ -32,14 +30,13 @@ common_box a b =
     (common_side a.z a.whd.depth b.z b.whd.depth))
 
 -- "The overlap test shall answer the common box, or none."
-unfoldable pub common_of : BinSection → BinSection → Common
-common_of a b = cond (overlaps_of a b) (Shared (common_box a b)) Apart
+unfoldable pub common_of : BinSection → BinSection → Option BinSection
+common_of a b = cond (overlaps_of a b) (Some (common_box a b)) None
 
 -- an answer as a box: the zero section where there is none
-abbrev pub box_of : Common → BinSection
-box_of (Shared box) = box
-box_of Apart = zero_section
+abbrev pub box_of : Option BinSection → BinSection
+box_of c = unwrap_or c zero_section
 
 -- "6 words (x, y, z, width, height, depth)", six zeros where there is none
-abbrev pub common_words : Common → List ℕ
+abbrev pub common_words : Option BinSection → List ℕ
 common_words c = section_words (box_of c)

@@ -5,6 +5,7 @@ ghost use Rattle.bin_section.specs.Inside.{span_inside, inside_of};
 use crate::section::BinSection;
 use crate::width_height_depth::WidthHeightDepth;
 
+#[tactic(auto, unfolding(crate::specs::Inside::inside_of))]
 pub fn inside(section: BinSection, whd: WidthHeightDepth) -> bool
     ensures { result ≡ inside_of whd section }
 {
@@ -14,6 +15,7 @@ pub fn inside(section: BinSection, whd: WidthHeightDepth) -> bool
 }
 
 // Along one axis. The sum is made in 64 bits: in 32 it could wrap.
+#[tactic(auto, unfolding(crate::specs::Inside::span_inside))]
 fn span_inside(origin: u32, side: u32, room: u32) -> bool
     ensures { result ≡ span_inside origin side room }
 {

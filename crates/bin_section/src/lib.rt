@@ -8,7 +8,7 @@ mod section;
 mod width_height_depth;
 
 pub use bounds::inside;
-pub use overlaps::{Common, greater, lesser};
+pub use overlaps::write_common;
 pub use rect_to_insert::RectToInsert;
 pub use section::BinSection;
 pub use width_height_depth::{WidthHeightDepth, side_ok};

@@ -4,7 +4,7 @@ ghost use Rattle.bin_section.specs.Sides.{rectangle};
 
 use crate::width_height_depth::WidthHeightDepth;
 
-#[derive(Clone, Copy)]
+#[derive(Clone, Copy, Debug, PartialEq, Eq)]
 pub struct RectToInsert {
     pub whd: WidthHeightDepth,
 }

@@ -1,12 +1,12 @@
 // A section: a box by its origin and its sides, and its six words.
-ghost use Rattle.std.specs.Prelude.{◌≡◌, ◌+◌, ◌*◌, ◌≤◌, length};
-ghost use Rattle.lists.specs.Tab.{put};
+ghost use Rattle.std.specs.Prelude.{◌≡◌};
 ghost use Rattle.bin_section.specs.Section.{section, whole_section, zero_section, section_at, section_words};
+ghost use Rattle.bin_section.specs.Layouts.{section_layout};
 
 use crate::width_height_depth::WidthHeightDepth;
-use words::put_words;
+use words::Record;
 
-#[derive(Clone, Copy)]
+#[derive(Clone, Copy, Default, Debug, PartialEq, Eq)]
 pub struct BinSection {
     pub x: u32,
     pub y: u32,
@@ -36,42 +36,34 @@ impl BinSection {
     {
         BinSection::whole(WidthHeightDepth::new(0, 0, 0))
     }
+}
 
-    // The section at index i of a list of six words each.
-    pub fn read(words: &[u32], i: usize) -> BinSection
-        requires { i * 6 + 6 ≤ length words.now }
-        ensures { result ≡ section_at words.now i }
-    {
-        let at = i * BinSection::WORDS;
-        BinSection {
-            x: words[at],
-            y: words[at + 1],
-            z: words[at + 2],
-            whd: WidthHeightDepth {
-                width: words[at + 3],
-                height: words[at + 4],
-                depth: words[at + 5],
-            },
-        }
-    }
+// From its six words: x, y, z, width, height, depth.
+impl From<[u32; 6]> for BinSection {
+    ghost from_gives = { λ words s. s ≡ section_at words 0 };
 
-    // Writes the section to index i of a list of six words each.
-    pub fn write(self, words: &mut [u32], i: usize)
-        requires { i * 6 + 6 ≤ length words.old }
-        ensures { words.new ≡ put words.old (i * 6) (section_words self) }
-    {
-        let at = i * BinSection::WORDS;
-        put_words(
-            words,
-            at,
-            &[
-                self.x,
-                self.y,
-                self.z,
-                self.whd.width,
-                self.whd.height,
-                self.whd.depth,
-            ],
-        );
+    #[tactic(auto, unfolding(crate::specs::Section::section_at))]
+    fn from([x, y, z, width, height, depth]: [u32; 6]) -> BinSection {
+        BinSection::new(x, y, z, WidthHeightDepth::new(width, height, depth))
     }
+}
+
+impl From<BinSection> for [u32; 6] {
+    ghost from_gives = { λ s words. words ≡ section_words s };
+
+    fn from(s: BinSection) -> [u32; 6] {
+        [s.x, s.y, s.z, s.whd.width, s.whd.height, s.whd.depth]
+    }
+}
+
+impl Record<6> for BinSection {
+    ghost record_at = { section_at };
+
+    ghost record_words = { λ s. section_words s };
+
+    ghost layout = { section_layout };
+
+    ghost from_words = { λ w s e. e };
+
+    ghost to_words = { λ s w e. e };
 }

@@ -3,7 +3,7 @@ ghost use Rattle.std.specs.Prelude.{◌≡◌, ◌≤◌, length};
 ghost use Rattle.bin_section.specs.Sides.{sides, sides_in, volume_of, side_ok, sides_ok};
 ghost use Rattle.bin_section.specs.Leaning.{Small};
 
-#[derive(Clone, Copy)]
+#[derive(Clone, Copy, Default, Debug, PartialEq, Eq)]
 pub struct WidthHeightDepth {
     pub width: u32,
     pub height: u32,
@@ -49,6 +49,7 @@ impl WidthHeightDepth {
     }
 }
 
+#[tactic(auto, unfolding(crate::specs::Sides::side_ok))]
 pub fn side_ok(side: u32) -> bool
     ensures { result ≡ side_ok side }
 {

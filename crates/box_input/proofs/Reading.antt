@@ -3,6 +3,7 @@ use Prim.Native.Nat.{ℕ, ◌+◌, ◌*◌, ◌-◌, ◌≤◌, ◌<◌}
 use mathlib.Core.Path.{◌≡◌, refl, sym, ap, ◌∙◌}
 use mathlib.Core.Logic.{◌⊎◌, inl, inr}
 use mathlib.Core.List.{List, ◌++◌}
+use Rattle.std.proofs.Common.{Option, Some, None}
 use mathlib.Core.Bool.{Bool, true, false, not, ◌&&◌}
 use native.Mathlib.Decide.{dec_lt}
 use native.Mathlib.Omega.{arith}
@@ -14,9 +15,7 @@ use Rattle.lists.proofs.Flags.{and_first, and_second}
 use Rattle.wire.specs.Word.{word_at, words_in}
 use Rattle.wire.proofs.Filling.{length-words_in}
 use Rattle.box_input.specs.declared.InputHead.{InputHead}
-use Rattle.box_input.specs.declared.BoxInput.{BoxInput}
-use Rattle.box_input.specs.declared.BoxInput.TheVariants.{Boxes, NoInput}
-use Rattle.box_input.specs.Input.{head_word, head_of, input_placed_count, input_free_count, input_placed, input_free, is_input}
+use Rattle.box_input.specs.Input.{head_of, input_placed_count, input_free_count, input_placed, input_free, is_input}
 use Rattle.box_input.specs.Read.{InputRead, input_read, placed_table, free_table, input_of}
 
 -- ---- the code's parts
@@ -24,9 +23,6 @@ use Rattle.box_input.specs.Read.{InputRead, input_read, placed_table, free_table
 -- a part of a slice up to its end
 past : (at : ℕ) (b : List ℕ) → take (length b - at) (drop at b) ≡ drop at b
 past at b = take_all (length b - at) (drop at b) (simp length-drop (omega arith))
-
-pub head_read : (b : List ℕ) (i r : ℕ) → r ≡ word_at (take (length b - 5) (drop 5 b)) i → r ≡ head_word b i
-head_read b i r e = e ∙ ap (λ (l : List ℕ). word_at l i) (past 5 b)
 
 pub words_read : (b w₀ w : List ℕ) (at n : ℕ) → w ≡ words_in (take (length b - at) (drop at b)) n ++ drop n w₀ → w ≡ words_in (drop at b) n ++ drop n w₀
 words_read b w₀ w at n e = e ∙ ap (λ (l : List ℕ). words_in l n ++ drop n w₀) (past at b)
@@ -86,19 +82,18 @@ module _ (b : List ℕ) (t : Bool) (e : t ≡ is_input b) (h : not t ≡ false) 
 pub record WasRead (b : List ℕ) (said : InputHead) (p f : List ℕ) : Type 0 where
   pub input : is_input b ≡ true
   pub head : said ≡ head_of b
-  pub few_boxes : said.placed + said.free ≤ 1024
   pub placed_words : take (said.placed * 6) p ≡ input_placed b
   pub free_words : take (said.free * 6) f ≡ input_free b
 
 module _ (b p₀ f₀ : List ℕ) where
-  read_none : is_input b ≡ false → input_read NoInput p₀ f₀ ≡ input_of b p₀ f₀
+  read_none : is_input b ≡ false → input_read None p₀ f₀ ≡ input_of b p₀ f₀
   unfolding input_of
   read_none h = rw h
 
-  pub nothing_read : (t : Bool) → t ≡ is_input b → not t ≡ true → input_read NoInput p₀ f₀ ≡ input_of b p₀ f₀
+  pub nothing_read : (t : Bool) → t ≡ is_input b → not t ≡ true → input_read None p₀ f₀ ≡ input_of b p₀ f₀
   nothing_read t e h = read_none (sym e ∙ not-true t h)
 
-  read_input : is_input b ≡ true → input_read (Boxes (head_of b)) (placed_table b p₀) (free_table b f₀) ≡ input_of b p₀ f₀
+  read_input : is_input b ≡ true → input_read (Some (head_of b)) (placed_table b p₀) (free_table b f₀) ≡ input_of b p₀ f₀
   unfolding input_of
   read_input h = rw h
 
@@ -109,32 +104,26 @@ module _ (b p₀ f₀ : List ℕ) where
       → said ≡ head_of b
       → p ≡ words_in (drop 25 b) (said.placed * 6) ++ drop (said.placed * 6) p₀
       → f ≡ words_in (drop (25 + said.placed * 24) b) (said.free * 6) ++ drop (said.free * 6) f₀
-      → input_read (Boxes said) p f ≡ input_of b p₀ f₀
+      → input_read (Some said) p f ≡ input_of b p₀ f₀
   boxes_read t said p f e h s ep ef = rw (ep, ef, s) (read_input (sym e ∙ not-false t h))
 
-  module _ (p f : List ℕ) (input : BoxInput) (e : input_read input p f ≡ input_of b p₀ f₀) where
-    pub none_read : input ≡ NoInput → is_input b ≡ false
-    none_read n = never (is_input b) (λ h. go (sym n ∙ ap (λ (r : InputRead). r.answer) (e ∙ sym (read_input h))))
-      where
-        go : NoInput ≡ Boxes (head_of b) → ⊥
-        go q = let z : ◌≡◌ {A = ℕ} 0 1 = cc in omega arith
+  module _ (p f : List ℕ) (input : Option InputHead) (e : input_read input p f ≡ input_of b p₀ f₀) where
+    pub none_read : input ≡ None → is_input b ≡ false
+    none_read n =
+        never (is_input b) (λ h. let q : None ≡ Some (head_of b) = sym n ∙ ap (λ (r : InputRead). r.answer) (e ∙ sym (read_input h)) in cc)
 
-    pub was_read : (said : InputHead) → input ≡ Boxes said → WasRead b said p f
+    pub was_read : (said : InputHead) → input ≡ Some said → WasRead b said p f
     was_read said n = go (is_input b) refl
       where
-        none : Boxes said ≡ NoInput → ⊥
-        none q = let z : ◌≡◌ {A = ℕ} 0 1 = cc in omega arith
-
         go : (t : Bool) → is_input b ≡ t → WasRead b said p f
         go true h =
             let q = e ∙ sym (read_input h) in
-            let a : Boxes said ≡ Boxes (head_of b) = sym n ∙ ap (λ (r : InputRead). r.answer) q in
+            let a : Some said ≡ Some (head_of b) = sym n ∙ ap (λ (r : InputRead). r.answer) q in
             let s : said ≡ head_of b = cc in
             record {
               input = h;
               head = s;
-              few_boxes = rw s (few b h);
               placed_words = rw (s, ap (λ (r : InputRead). r.placed) q) (take_at (input_placed b) _ _ (length-words_in (drop 25 b) _));
               free_words = rw (s, ap (λ (r : InputRead). r.free) q) (take_at (input_free b) _ _ (length-words_in _ _));
             }
-        go false h = absurd (none (sym n ∙ ap (λ (r : InputRead). r.answer) (e ∙ sym (read_none h))))
+        go false h = let q : Some said ≡ None = sym n ∙ ap (λ (r : InputRead). r.answer) (e ∙ sym (read_none h)) in absurd (cc)

@@ -1,8 +1,8 @@
-// The input of the programs that are given boxes: a chamber, its placed and its free boxes, in bytes. An input is read whole into two lent
+// The input of the programs that are given boxes: a chamber, its placed and its free boxes, in bytes. An input is read whole into two
 // tables; what is no input leaves them as they are.
 #![tactic(auto)]
 
-ghost use Rattle.std.specs.Prelude.{◌≡◌, ◌++◌, ◌+◌, ◌*◌, ◌≤◌, length, drop};
+ghost use Rattle.std.specs.Prelude.{IfSome, ◌≡◌, ◌++◌, ◌+◌, ◌*◌, ◌≤◌, length, drop};
 ghost use Rattle.wire.specs.Word.{words_in};
 ghost use Rattle.box_input.specs.Read.{input_read, input_of};
 
@@ -19,14 +19,7 @@ pub struct InputHead {
     pub free: usize,
 }
 
-// What bytes are: an input, or none.
-#[derive(Clone, Copy)]
-pub enum BoxInput {
-    Boxes(InputHead),
-    NoInput,
-}
-
-impl BoxInput {
+impl InputHead {
     pub const VERSION: u8 = 1;
 
     // The bytes of the length word and the version.
@@ -42,47 +35,45 @@ impl BoxInput {
     pub const MOST_BOXES: usize = 1024;
 
     // The bytes of the longest input.
-    pub const MOST: usize = BoxInput::HEAD + BoxInput::MOST_BOXES * BoxInput::BOX;
-
-    // The words of a table with room for all boxes.
-    pub const TABLE: usize = BoxInput::MOST_BOXES * BinSection::WORDS;
+    pub const MOST: usize = InputHead::HEAD + InputHead::MOST_BOXES * InputHead::BOX;
 }
 
-// The n words from byte `at` on.
-fn read_from(bytes: &[u8], at: usize, words: &mut [u32], n: usize)
-    requires { (at + n * 4 ≤ length bytes.now) × (n ≤ length words.old) }
-    ensures { words.new ≡ words_in (drop at bytes.now) n ++ drop n words.old }
-{
-    let from = &bytes[at..];
-    wire::read_words(from, words, n);
+// The words of an input's boxes, each list at the front of a table with room for all boxes.
+#[derive(Drop)]
+pub struct InputBoxes {
+    pub placed: [u32; InputBoxes::WORDS],
+    pub free: [u32; InputBoxes::WORDS],
 }
 
-// The boxes of an input, "placed first".
-fn read_boxes(bytes: &[u8], said: InputHead, placed: &mut [u32], free: &mut [u32])
-    requires free_value { (25 + (said.placed + said.free) * 24 ≡ length bytes.now) × (said.placed + said.free ≤ 1024) }
-    requires in_bounds { (6144 ≤ length placed.old) × (6144 ≤ length free.old) }
-    ensures placed_after { placed.new ≡ words_in (drop 25 bytes.now) (said.placed * 6) ++ drop (said.placed * 6) placed.old }
-    ensures free_after { free.new ≡ words_in (drop (25 + said.placed * 24) bytes.now) (said.free * 6) ++ drop (said.free * 6) free.old }
-{
-    read_from(
-        bytes,
-        BoxInput::HEAD,
-        placed,
-        said.placed * BinSection::WORDS,
-    );
-    let at = BoxInput::HEAD + said.placed * BoxInput::BOX;
-    read_from(bytes, at, free, said.free * BinSection::WORDS);
+impl InputBoxes {
+    // The words of a table.
+    pub const WORDS: usize = InputHead::MOST_BOXES * BinSection::WORDS;
+
+    // The boxes of an input, "placed first".
+    fn read(&mut self, bytes: &[u8], said: InputHead)
+        requires size { 25 + (said.placed + said.free) * 24 ≡ length bytes.now }
+        requires few { said.placed + said.free ≤ 1024 }
+        ensures placed_after { self.new.placed ≡ words_in (drop 25 bytes.now) (said.placed * 6) ++ drop (said.placed * 6) self.old.placed }
+        ensures free_after { self.new.free ≡ words_in (drop (25 + said.placed * 24) bytes.now) (said.free * 6) ++ drop (said.free * 6) self.old.free }
+    {
+        let placed = said.placed * BinSection::WORDS;
+        wire::read_words(&bytes[InputHead::HEAD..], &mut self.placed, placed);
+        let at = InputHead::HEAD + said.placed * InputHead::BOX;
+        let free = said.free * BinSection::WORDS;
+        wire::read_words(&bytes[at..], &mut self.free, free);
+    }
 }
 
-// Reads an input: the words of its boxes go to the front of the two tables, whose other words stay. Each has room for all boxes.
-pub fn read_input(bytes: &[u8], placed: &mut [u32], free: &mut [u32]) -> BoxInput
-    requires { (6144 ≤ length placed.old) × (6144 ≤ length free.old) }
-    ensures { input_read result placed.new free.new ≡ input_of bytes.now placed.old free.old }
+// Reads an input: the words of its boxes go to the front of the two tables, whose other words stay.
+#[tactic(auto, using(crate::proofs::Reading::told_long, crate::proofs::Reading::nothing_read))]
+pub fn read_input(bytes: &[u8], boxes: &mut InputBoxes) -> Option<InputHead>
+    ensures few { IfSome result (λ said. said.placed + said.free ≤ 1024) }
+    ensures read { input_read result boxes.new.placed boxes.new.free ≡ input_of bytes.now boxes.old.placed boxes.old.free }
 {
     if !is_input(bytes) {
-        return BoxInput::NoInput;
+        return None;
     }
     let said = head(bytes);
-    read_boxes(bytes, said, placed, free);
-    BoxInput::Boxes(said)
+    boxes.read(bytes, said);
+    Some(said)
 }

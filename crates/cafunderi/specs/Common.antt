@@ -1,12 +1,12 @@
 -- The common box that a reply hands on, in lent words, and what a job on the two tables then leaves.
-use Rattle.std.specs.Prelude.{ℕ, List, cond, eqb}
-use Rattle.bin_section.specs.declared.overlaps.Common.{Common}
+use Rattle.std.specs.Prelude.{ℕ, List, cond, eqb, Option}
+use Rattle.bin_section.specs.declared.section.BinSection.{BinSection}
 use Rattle.bin_section.specs.Overlap.{common_words}
 use Rattle.replies.specs.declared.reply.Reply.{Reply}
 use Rattle.target_bin.specs.Outcome.{CommonOutcome}
 
 -- six words that "hand it on": the common box, or six zeros where there is none. Reply 1 writes nothing.
-unfoldable pub common_after : List ℕ → Reply → Common → List ℕ
+unfoldable pub common_after : List ℕ → Reply → Option BinSection → List ℕ
 common_after before r c = cond (eqb r.number 1) before (common_words c)
 
 -- the reply, and every lent word afterwards

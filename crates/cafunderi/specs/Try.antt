@@ -1,14 +1,13 @@
 -- Try one placement on lent words.
-use Rattle.std.specs.Prelude.{ℕ, List, [], ◌∷◌, ◌++◌, Bool, ◌&&◌, not, eqb, length, get_or}
+use Rattle.std.specs.Prelude.{ℕ, List, [], ◌∷◌, Bool, ◌&&◌, not, eqb, length}
 use Rattle.replies.specs.declared.reply.Reply.{Reply}
 use Rattle.bin_section.specs.declared.rect_to_insert.RectToInsert.{RectToInsert}
-use Rattle.bin_section.specs.declared.section.BinSection.{BinSection}
 use Rattle.replies.specs.Replies.{reply, once, in_order}
-use Rattle.bin_section.specs.Section.{zero_section, section_at, section_words}
+use Rattle.bin_section.specs.Section.{section_at}
 use Rattle.bin_section.specs.Sides.{sides_in}
-use Rattle.try_place.specs.declared.packed_location.PackedLocation.{PackedLocation}
 use Rattle.try_place.specs.declared.Tried.{Tried}
-use Rattle.try_place.specs.Try.{try_of, number_of, location_of}
+use Rattle.try_place.specs.Try.{try_of, number_of}
+use Rattle.try_place.specs.Words.{tried_words}
 
 -- "6, 3 and 21 words"
 unfoldable pub try_lengths_ok : List ℕ → List ℕ → List ℕ → Bool
@@ -18,18 +17,6 @@ try_lengths_ok section rectangle placed =
 -- the rectangle of a try: its sides in three words
 abbrev pub rectangle_in : List ℕ → RectToInsert
 rectangle_in w = record { whd = sides_in w }
-
-abbrev pub location_words : PackedLocation → List ℕ
-location_words l = l.x ∷ l.y ∷ l.z ∷ []
-
--- "right, above, behind"
-unfoldable pub three_words : List BinSection → List ℕ
-three_words three =
-    section_words (get_or three 0 zero_section) ++ (section_words (get_or three 1 zero_section) ++ section_words (get_or three 2 zero_section))
-
--- "21 words: location, then right, above, behind"
-unfoldable pub tried_words : Tried → List ℕ
-tried_words t = location_words (location_of t.answer) ++ three_words t.sections
 
 pub record TryOutcome : Type 0 where
   pub reply : Reply

@@ -20,23 +20,26 @@ use bin_section::{BinSection, WidthHeightDepth};
 use common_words::hand_on;
 use joins::join;
 use rectangle_pack::pack;
-use replies::Reply;
+use replies::{Refusal, Reply};
+use sections::CommonReply;
 use target_bin::{fresh, return_section};
 use try_words::{lengths_ok, try_words};
+use words::Record;
 
 #[unsafe(no_mangle)]
 pub extern "C" fn cafunderi_fresh(chambers: &mut [u32], store: &mut [u32]) -> Reply
     ensures { outcome result chambers.new store.new ≡ fresh_of chambers.old store.old }
 {
-    fresh(chambers, store)
+    Reply::from(fresh(chambers, store))
 }
 
 #[unsafe(no_mangle)]
+#[tactic(auto, unfolding(crate::specs::Try::try_face, crate::specs::Try::try_lengths_ok, replies::specs::Replies::in_order))]
 pub extern "C" fn cafunderi_try(section: &[u32], rectangle: &[u32], placed: &mut [u32]) -> Reply
     ensures { try_outcome result placed.new ≡ try_face section.now rectangle.now placed.old }
 {
     if !lengths_ok(section, rectangle, placed) {
-        return Reply::new(Reply::BAD_LENGTH, 0);
+        return Reply::from(Refusal::BadLength);
     }
     try_words(section, rectangle, placed)
 }
@@ -50,11 +53,12 @@ pub extern "C" fn cafunderi_pack(
 ) -> Reply
     ensures { pack_outcome result chambers.new store.new placements.new ≡ pack_of chambers.old store.old rectangles.now placements.old }
 {
-    pack(chambers, store, rectangles, placements)
+    Reply::from(pack(chambers, store, rectangles, placements))
 }
 
 // The section is the header's box, a word that is reserved here.
 #[unsafe(no_mangle)]
+#[tactic(auto, unfolding(crate::specs::Return::return_face, replies::specs::Replies::in_order))]
 pub extern "C" fn cafunderi_return(
     chambers: &mut [u32],
     store: &mut [u32],
@@ -64,14 +68,15 @@ pub extern "C" fn cafunderi_return(
 ) -> Reply
     ensures { lent_after result chambers.new store.new common.new ≡ return_face chambers.old store.old id section.now common.old }
 {
-    if (section.len() != BinSection::WORDS) | (common.len() != BinSection::WORDS) {
-        return Reply::new(Reply::BAD_LENGTH, 0);
+    if section.len() != BinSection::WORDS || common.len() != BinSection::WORDS {
+        return Reply::from(Refusal::BadLength);
     }
     let answer = return_section(chambers, store, id, BinSection::read(section, 0));
-    hand_on(answer, common)
+    hand_on(CommonReply::from(answer), common)
 }
 
 #[unsafe(no_mangle)]
+#[tactic(auto, unfolding(crate::specs::Join::join_face, replies::specs::Replies::in_order))]
 pub extern "C" fn cafunderi_join(
     chambers: &mut [u32],
     store: &mut [u32],
@@ -81,14 +86,15 @@ pub extern "C" fn cafunderi_join(
     ensures { lent_after result chambers.new store.new common.new ≡ join_face chambers.old store.old id common.old }
 {
     if common.len() != BinSection::WORDS {
-        return Reply::new(Reply::BAD_LENGTH, 0);
+        return Reply::from(Refusal::BadLength);
     }
     let answer = join(chambers, store, id);
-    hand_on(answer, common)
+    hand_on(CommonReply::from(answer), common)
 }
 
 // Reply and common box cross over, and no part of the lists: the detail says where the faulty box lies.
 #[unsafe(no_mangle)]
+#[tactic(auto, unfolding(crate::specs::Audit::audit_face, audit::specs::Audit::audit_of, replies::specs::Replies::in_order))]
 pub extern "C" fn cafunderi_audit(
     sides: &[u32],
     placed: &[u32],
@@ -97,10 +103,10 @@ pub extern "C" fn cafunderi_audit(
 ) -> Reply
     ensures { audit_words result common.new ≡ audit_face sides.now placed.now free.now common.old }
 {
-    if (sides.len() != WidthHeightDepth::WORDS) | (common.len() != BinSection::WORDS) {
-        return Reply::new(Reply::BAD_LENGTH, 0);
+    if sides.len() != WidthHeightDepth::WORDS || common.len() != BinSection::WORDS {
+        return Reply::from(Refusal::BadLength);
     }
     let whd = WidthHeightDepth::read(sides);
     let answer = audit_answer(whd, placed, free);
-    hand_on(answer, common)
+    hand_on(CommonReply::from(answer), common)
 }

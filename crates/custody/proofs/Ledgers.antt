@@ -16,7 +16,7 @@ use Rattle.bin_section.specs.Section.{section}
 use Rattle.grouped_rects_to_place.specs.Rect.{rect_at, rect_count}
 use Rattle.placement.specs.declared.Placement.{Placement}
 use Rattle.placement.specs.Placements.{no_placement, placement_width, placement_at, placement_words}
-use Rattle.placement.proofs.Layouts.{placement_layout}
+use Rattle.placement.specs.Layouts.{placement_layout}
 use Rattle.packing_rules.specs.Seats.{Seat, unplaced, seat}
 use Rattle.rectangle_pack.specs.Records.{placement_of, placements_of}
 use Rattle.custody.specs.Ledger.{placed_in, record_box, new_boxes, In, first, later, same_box, taken_out}

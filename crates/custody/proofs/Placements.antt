@@ -17,16 +17,14 @@ use Rattle.cells.proofs.Grid.{has}
 use Rattle.lists.proofs.Totals.{total, total_append, total_removed}
 use Rattle.cells.proofs.Held.{held}
 use Rattle.try_place.specs.declared.packed_location.PackedLocation.{PackedLocation}
-use Rattle.try_place.specs.declared.Tried.{Tried}
 use Rattle.try_place.specs.Splits.{six_splits}
 use Rattle.try_place.specs.Choice.{chosen}
-use Rattle.try_place.specs.Try.{fit_of, Fits}
+use Rattle.try_place.specs.Try.{Fits, chosen_three}
 use Rattle.packing_rules.specs.Appended.{appended_of}
 use Rattle.try_place.proofs.Meaning.{chosen_below}
 use Rattle.packing_rules.specs.Rules.{placed, place_one}
 use Rattle.packing_rules.proofs.Left.{Sided, one_left, inside_reachable, inside_passes}
 use Rattle.packing_rules.proofs.Placings.{PlacedAt, placed_at, Placings, no_more, then}
-use Rattle.try_place.proofs.Trying.{fit_is}
 use Rattle.custody.proofs.Cut.{corner_box, row_cut, held_appended}
 
 -- the box of a location, with the rectangle's sides
@@ -64,9 +62,8 @@ module _ (whd : WidthHeightDepth) (small : Small whd) where
                 omega (
                   arith,
                   ap (λ (f : List BinSection). held f cx cy cz) p.left,
-                  total_append (λ b. has b cx cy cz) (remove_at i free) (appended_of (fit_of s r).sections),
-                  held_appended (fit_of s r).sections cx cy cz,
-                  ap (λ (u : Tried). held u.sections cx cy cz) (fit_is s r fits),
+                  total_append (λ b. has b cx cy cz) (remove_at i free) (appended_of (chosen_three s r)),
+                  held_appended (chosen_three s r) cx cy cz,
                   row_cut s r fits cx cy cz (chosen (six_splits s r)) (chosen_below (six_splits s r)),
                   ap (λ (b : BinSection). has b cx cy cz) box,
                   total_removed (λ b. has b cx cy cz) i zero_section free p.within,

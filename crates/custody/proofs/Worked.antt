@@ -5,6 +5,7 @@ use mathlib.Core.Path.{◌≡◌, refl, ap, subst}
 use mathlib.Core.List.{List, [], ◌∷◌, ◌++◌}
 use native.Mathlib.Omega.{arith}
 use lib.ListN.{replicate}
+use Rattle.std.specs.Prelude.{Some, None}
 use Rattle.lists.specs.Lowest.{lowest, any_below}
 use Rattle.lists.specs.Pick.{picked}
 use Rattle.lists.specs.Sort.{insert_by, insert_all}
@@ -13,7 +14,6 @@ use Rattle.lists.specs.Tab.{tab, remove_at, put}
 use Rattle.bin_section.specs.declared.section.BinSection.{BinSection}
 use Rattle.bin_section.specs.Sides.{sides, side_ok}
 use Rattle.bin_section.specs.Section.{section, section_at}
-use Rattle.bin_section.specs.declared.overlaps.Common.TheVariants.{Shared, Apart}
 use Rattle.bin_section.specs.Overlap.{spans_meet, overlaps_of, common_side, common_box, common_of}
 use Rattle.replies.specs.Replies.{reply, in_order}
 use Rattle.cells.specs.Whole.{volumes}
@@ -147,17 +147,17 @@ record Jobs : Type 0 where
   -- a pack refused by check 4 changes nothing
   refused : pack_of (chamber_with 1) (part_of free₁) faulty (replicate 5 9) ≡ pack_outcome (reply 4 0) (chamber_with 1) (part_of free₁) (replicate 5 9)
   -- a return refused by check 10, since a free section shares a cell with the box, changes nothing, and hands on the space shared
-  shared : return_of (chamber_with 1) (part_of free₁) 1 (box 5 0 0 2 2 1) ≡ with_common (Shared (box 6 0 0 1 2 1)) (outcome (reply 10 0) (chamber_with 1) (part_of free₁))
+  shared : return_of (chamber_with 1) (part_of free₁) 1 (box 5 0 0 2 2 1) ≡ with_common (Some (box 6 0 0 1 2 1)) (outcome (reply 10 0) (chamber_with 1) (part_of free₁))
   -- the return answers 0
-  back : return_of (chamber_with 1) (part_of free₁) 1 returned-box ≡ with_common Apart (outcome (reply 0 1) (chamber_with 2) (part_of free₄))
+  back : return_of (chamber_with 1) (part_of free₁) 1 returned-box ≡ with_common None (outcome (reply 0 1) (chamber_with 2) (part_of free₄))
   -- now the group fits: the second pack answers 0
   again : pack_of (chamber_with 2) (part_of free₄) two (replicate 10 9) ≡ pack_outcome (reply 0 0) (chamber_with 3) (part_of free₅) records₅
   -- the long coil fits none of the three free sections: the pack answers 7
   too_long : pack_of (chamber_with 3) (part_of free₅) long (replicate 5 9) ≡ pack_outcome (reply 7 0) (chamber_with 3) (part_of free₅) (replicate 5 0)
   -- a join refused by check 8, since no chamber has the id, changes nothing
-  unknown : join_of (chamber_with 3) (part_of free₅) 9 ≡ with_common Apart (outcome (reply 8 0) (chamber_with 3) (part_of free₅))
+  unknown : join_of (chamber_with 3) (part_of free₅) 9 ≡ with_common None (outcome (reply 8 0) (chamber_with 3) (part_of free₅))
   -- the first and the third lie side by side: the join answers 0 with one join
-  joined_up_lem : join_of (chamber_with 3) (part_of free₅) 1 ≡ with_common Apart (outcome (reply 0 1) (chamber_with 2) (part_of free₇))
+  joined_up_lem : join_of (chamber_with 3) (part_of free₅) 1 ≡ with_common None (outcome (reply 0 1) (chamber_with 2) (part_of free₇))
   -- now the long coil fits
   fits_now : pack_of (chamber_with 2) (part_of free₇) long (replicate 5 9) ≡ pack_outcome (reply 0 0) (chamber_with 1) (part_of free₈) records₈
   -- the boxes placed in chamber 1 after each job

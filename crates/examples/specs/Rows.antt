@@ -1,10 +1,9 @@
 -- The words that the rows of the table are written in.
-use Rattle.std.specs.Prelude.{ℕ, zero, suc, ◌*◌, ◌-◌, List, [], ◌∷◌, ◌++◌, map, length, replicate}
+use Rattle.std.specs.Prelude.{ℕ, zero, suc, ◌*◌, ◌-◌, List, [], ◌∷◌, ◌++◌, map, length, replicate, Some, None}
 use Rattle.replies.specs.declared.reply.Reply.{Reply}
 use Rattle.replies.specs.Replies.{reply}
 use Rattle.bin_section.specs.declared.width_height_depth.WidthHeightDepth.{WidthHeightDepth}
 use Rattle.bin_section.specs.declared.section.BinSection.{BinSection}
-use Rattle.bin_section.specs.declared.overlaps.Common.TheVariants.{Shared, Apart}
 use Rattle.bin_section.specs.Sides.{sides}
 use Rattle.bin_section.specs.Section.{section}
 use Rattle.words.specs.Words.{joined}
@@ -128,11 +127,11 @@ abbrev pub return : LentTables → ℕ → BinSection → Job
 return = returns
 
 abbrev pub returned◌leaving◌ : Reply → List WithFree → Answer
-returned r leaving cs = of_return (with_common Apart (outcome r (tables_of cs).chambers (tables_of cs).store))
+returned r leaving cs = of_return (with_common None (outcome r (tables_of cs).chambers (tables_of cs).store))
 
 -- with the common box that is handed on
 abbrev pub returned◌sharing◌leaving◌ : Reply → BinSection → List WithFree → Answer
-returned r sharing b leaving cs = of_return (with_common (Shared b) (outcome r (tables_of cs).chambers (tables_of cs).store))
+returned r sharing b leaving cs = of_return (with_common (Some b) (outcome r (tables_of cs).chambers (tables_of cs).store))
 
 -- ---- a join in the chamber that has the id, and both tables afterwards
 
@@ -155,11 +154,11 @@ abbrev pub join : List WithPast → ℕ → Job
 join cs = joins (past_tables cs)
 
 abbrev pub joined◌leaving◌ : Reply → List WithPast → Answer
-joined r leaving cs = of_join (with_common Apart (outcome r (past_tables cs).chambers (past_tables cs).store))
+joined r leaving cs = of_join (with_common None (outcome r (past_tables cs).chambers (past_tables cs).store))
 
 -- with the common box that is handed on
 abbrev pub joined◌sharing◌leaving◌ : Reply → BinSection → List WithPast → Answer
-joined r sharing b leaving cs = of_join (with_common (Shared b) (outcome r (past_tables cs).chambers (past_tables cs).store))
+joined r sharing b leaving cs = of_join (with_common (Some b) (outcome r (past_tables cs).chambers (past_tables cs).store))
 
 -- ---- a pack of coils, and all tables afterwards
 
@@ -182,8 +181,8 @@ abbrev pub audit : WidthHeightDepth → List BinSection → List BinSection → 
 audit whd placed open' = audits whd (all_words placed) (all_words open')
 
 abbrev pub audited◌shown◌sum◌ : Reply → List BinSection → ℕ → Answer
-audited r shown bs sum n = of_audit (record { reply = r; common = Apart; shown = all_words bs; sum = n })
+audited r shown bs sum n = of_audit (record { reply = r; common = None; shown = all_words bs; sum = n })
 
 -- with the common box that is handed on
 abbrev pub audited◌sharing◌shown◌sum◌ : Reply → BinSection → List BinSection → ℕ → Answer
-audited r sharing b shown bs sum n = of_audit (record { reply = r; common = Shared b; shown = all_words bs; sum = n })
+audited r sharing b shown bs sum n = of_audit (record { reply = r; common = Some b; shown = all_words bs; sum = n })

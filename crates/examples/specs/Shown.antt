@@ -1,5 +1,5 @@
 -- What an example shows of each job, by that job's own rules. The `unfolding` lines name what has to be computed; they say nothing else.
-use Rattle.std.specs.Prelude.{ℕ, ◌+◌, List, map, cond, eqb, get_or}
+use Rattle.std.specs.Prelude.{ℕ, ◌+◌, List, map, cond, eqb, get_or, Option}
 use Rattle.lists.specs.Lowest.{lowest, any_below}
 use Rattle.lists.specs.Pick.{picked}
 use Rattle.lists.specs.Sort.{insert_by, insert_all}
@@ -9,7 +9,6 @@ use Rattle.replies.specs.declared.reply.Reply.{Reply}
 use Rattle.replies.specs.Replies.{in_order}
 use Rattle.bin_section.specs.declared.width_height_depth.WidthHeightDepth.{WidthHeightDepth}
 use Rattle.bin_section.specs.declared.section.BinSection.{BinSection}
-use Rattle.bin_section.specs.declared.overlaps.Common.{Common}
 use Rattle.bin_section.specs.declared.rect_to_insert.RectToInsert.{RectToInsert}
 use Rattle.bin_section.specs.Sides.{side_ok, volume_of}
 use Rattle.bin_section.specs.Section.{section_at}
@@ -19,7 +18,7 @@ use Rattle.cells.specs.Whole.{volumes}
 use Rattle.try_place.specs.declared.choice.Ranked.{Ranked}
 use Rattle.try_place.specs.Splits.{six_splits}
 use Rattle.try_place.specs.Choice.{chosen, ranks_of, best_of, best_from, later_of, better_of, zero_ranked}
-use Rattle.try_place.specs.Try.{span_ok, fit_checks, fit_of, try_checks, try_of, number_of}
+use Rattle.try_place.specs.Try.{span_ok, fit_checks, fit_of, try_checks, try_answer, try_of, number_of}
 use Rattle.packing_rules.specs.Appended.{larger, kept_one, kept, appended_of}
 use Rattle.words.specs.Words.{joined}
 use Rattle.sections.specs.Sections.{sections}
@@ -69,7 +68,7 @@ unfolding sum_to
 tied t = sum_to 6 (λ k. as_good t (get_or (ranks_of t) k zero_ranked))
 
 unfoldable pub try_shown : RectToInsert → BinSection → TryShown
-unfolding tied side_ok span_ok in_order fit_checks fit_of try_checks try_of six_splits chosen ranks_of best_of best_from later_of better_of
+unfolding tied side_ok span_ok in_order fit_checks fit_of try_checks try_answer six_splits chosen ranks_of best_of best_from later_of better_of
     appended_of larger kept_one kept insert_by insert_all
 try_shown r s =
     let t = try_of s r in
@@ -122,7 +121,7 @@ fresh_shown t =
 
 pub record AuditShown : Type 0 where
   pub reply : Reply
-  pub common : Common
+  pub common : Option BinSection
   -- the words that it shows
   pub shown : List ℕ
   -- what the volumes of all boxes sum to

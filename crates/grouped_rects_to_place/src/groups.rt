@@ -1,32 +1,31 @@
-// Groups: who belongs together, the first of a group, its members and the sum of their volumes.
-ghost use Rattle.std.specs.Prelude.{◌≡◌, ◌<◌, ◌≤◌, length};
+// Groups: who belongs together, which rectangle is the first of a group, its members and the sum of their volumes.
+ghost use Rattle.std.specs.Prelude.{◌≡◌, ◌<◌, ◌≤◌};
 ghost use Rattle.grouped_rects_to_place.specs.Rect.{rect_at};
-ghost use Rattle.grouped_rects_to_place.specs.Leaning.{HasRect, HasRects, GoodRects, Listed, Pushed};
-ghost use Rattle.grouped_rects_to_place.specs.Groups.{same_group, lead_of, share, group_volume, members};
+ghost use Rattle.grouped_rects_to_place.specs.Leaning.{HasRect, HasRects, GoodRects};
+ghost use Rattle.grouped_rects_to_place.specs.Groups.{same_group, is_lead, group_volume, members};
 
 use crate::rect_to_place::RectToPlace;
+use arrayvec::ArrayVec;
+use lists::lowest_index;
+use words::Record;
 
 // A rectangle with no group is a group of one.
+#[tactic(auto, unfolding(crate::specs::Groups::same_group))]
 pub fn same_group(rects: &[u32], i: usize, j: usize) -> bool
     requires { HasRect rects.now i × HasRect rects.now j }
     ensures { result ≡ same_group (rect_at rects.now) i j }
 {
     let a = RectToPlace::read(rects, i);
     let b = RectToPlace::read(rects, j);
-    (i == j) | ((0 < a.group) & (a.group == b.group))
+    i == j || 0 < a.group && a.group == b.group
 }
 
-// The first index of the group.
-pub fn lead_of(rects: &[u32], i: usize) -> usize
+// Whether no rectangle before it is of its group.
+pub fn is_lead(rects: &[u32], i: usize) -> bool
     requires { HasRect rects.now i }
-    ensures { (result ≡ lead_of (rect_at rects.now) i) × (result ≤ i) }
+    ensures { result ≡ is_lead (rect_at rects.now) i }
 {
-    for j in 0..i {
-        if same_group(rects, j, i) {
-            return j;
-        }
-    }
-    i
+    lowest_index(i, |j| same_group(rects, j, i)).is_none()
 }
 
 // The sum of the volumes of the group: at most 63 of them, so it fits 64 bits.
@@ -34,46 +33,29 @@ pub fn group_volume(rects: &[u32], n: usize, lead: usize) -> u64
     requires { GoodRects rects.now n × (lead < n) }
     ensures { result ≡ group_volume n (rect_at rects.now) lead }
 {
-    let mut sum: u64 = 0;
+    let mut sum = 0;
     for j in 0..n {
-        sum += volume_in(rects, n, lead, j);
+        if same_group(rects, lead, j) {
+            sum += RectToPlace::read(rects, j).whd.volume();
+        }
     }
     sum
 }
 
-// What the rectangle at j adds to the sum of the group: its volume, or nothing.
-fn volume_in(rects: &[u32], n: usize, lead: usize, j: usize) -> u64
-    requires { GoodRects rects.now n × (lead < n) × (j < n) }
-    ensures { (result ≡ share (rect_at rects.now) lead j) × (result ≤ 281462092005375) }
+// "Inside a group, table order": `out` has the indices of the group from now on, and no others.
+pub fn members_of(
+    rects: &[u32],
+    n: usize,
+    lead: usize,
+    out: &mut ArrayVec<usize, { RectToPlace::MOST }>,
+)
+    requires { HasRects rects.now n × (lead < n) × (n ≤ RectToPlace.MOST) }
+    ensures { out.new.items ≡ members n (rect_at rects.now) lead }
 {
-    if !same_group(rects, lead, j) {
-        return 0;
-    }
-    let r = RectToPlace::read(rects, j);
-    r.whd.volume()
-}
-
-// "Inside a group, table order": the indices of the group go to the front of `out`; how many there are is returned.
-pub fn members_of(rects: &[u32], n: usize, lead: usize, out: &mut [usize]) -> usize
-    requires { HasRects rects.now n × (lead < n) × (n ≤ length out.old) }
-    ensures { Listed n (members n (rect_at rects.now) lead) out.new result }
-{
-    let mut count = 0;
+    out.clear();
     for j in 0..n {
-        let next = push_if(same_group(rects, lead, j), out, count, j);
-        count = next;
+        if same_group(rects, lead, j) {
+            out.push(j);
+        }
     }
-    count
-}
-
-// Writes j behind the first `count`, if it is to be there; returns how many there are then.
-fn push_if(wanted: bool, out: &mut [usize], count: usize, j: usize) -> usize
-    requires { count < length out.old }
-    ensures { Pushed wanted j count out.old out.new result }
-{
-    if !wanted {
-        return count;
-    }
-    out[count] = j;
-    count + 1
 }

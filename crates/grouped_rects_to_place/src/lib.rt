@@ -9,4 +9,4 @@ mod sorting;
 pub use checks::{first_bad_rect, first_repeated};
 pub use groups::members_of;
 pub use rect_to_place::RectToPlace;
-pub use sorting::{put_in, sort_groups};
+pub use sorting::{Group, GroupKey, Lead, sort_groups};

@@ -1,13 +1,13 @@
 // A rectangle of the lent table: its id, its group and its sides.
-ghost use Rattle.std.specs.Prelude.{◌≡◌, ◌*◌};
-ghost use Rattle.lists.specs.Tab.{put};
-ghost use Rattle.grouped_rects_to_place.specs.Rect.{rect_at, rect_width, rect_words};
-ghost use Rattle.grouped_rects_to_place.specs.Leaning.{HasRect};
+ghost use Rattle.std.specs.Prelude.{◌≡◌};
+ghost use Rattle.grouped_rects_to_place.specs.Rect.{rect_at, rect_words};
+ghost use Rattle.grouped_rects_to_place.specs.Layouts.{rect_layout};
 
 use bin_section::WidthHeightDepth;
-use words::put_words;
+use words::Record;
 
-#[derive(Clone, Copy)]
+// The group is 0 for none, as in the table.
+#[derive(Clone, Copy, Default)]
 pub struct RectToPlace {
     pub id: u32,
     pub group: u32,
@@ -15,44 +15,38 @@ pub struct RectToPlace {
 }
 
 impl RectToPlace {
-    // The words of a rectangle: id, group (0 for none), width, height, depth. Only `read` and `write` know where each stands.
     pub const WORDS: usize = 5;
     // "At most 63 in a call."
     pub const MOST: usize = 63;
+}
 
-    // The rectangle at index i of the table.
-    pub fn read(rects: &[u32], i: usize) -> RectToPlace
-        requires { HasRect rects.now i }
-        ensures { result ≡ rect_at rects.now i }
-    {
-        let at = i * RectToPlace::WORDS;
-        RectToPlace {
-            id: rects[at],
-            group: rects[at + 1],
-            whd: WidthHeightDepth {
-                width: rects[at + 2],
-                height: rects[at + 3],
-                depth: rects[at + 4],
-            },
-        }
-    }
+// From its five words: id, group, width, height, depth.
+impl From<[u32; 5]> for RectToPlace {
+    ghost from_gives = { λ words r. r ≡ rect_at words 0 };
 
-    // Writes the rectangle to index i of the table.
-    pub fn write(self, rects: &mut [u32], i: usize)
-        requires { HasRect rects.old i }
-        ensures { rects.new ≡ put rects.old (i * rect_width) (rect_words self) }
-    {
-        let at = i * RectToPlace::WORDS;
-        put_words(
-            rects,
-            at,
-            &[
-                self.id,
-                self.group,
-                self.whd.width,
-                self.whd.height,
-                self.whd.depth,
-            ],
-        );
+    #[tactic(auto, unfolding(crate::specs::Rect::rect_at))]
+    fn from([id, group, width, height, depth]: [u32; 5]) -> RectToPlace {
+        let whd = WidthHeightDepth::new(width, height, depth);
+        RectToPlace { id, group, whd }
     }
+}
+
+impl From<RectToPlace> for [u32; 5] {
+    ghost from_gives = { λ r words. words ≡ rect_words r };
+
+    fn from(r: RectToPlace) -> [u32; 5] {
+        [r.id, r.group, r.whd.width, r.whd.height, r.whd.depth]
+    }
+}
+
+impl Record<5> for RectToPlace {
+    ghost record_at = { rect_at };
+
+    ghost record_words = { λ r. rect_words r };
+
+    ghost layout = { rect_layout };
+
+    ghost from_words = { λ w r e. e };
+
+    ghost to_words = { λ r w e. e };
 }

@@ -13,8 +13,7 @@ use Rattle.lists.specs.Sort.{Each}
 use Rattle.lists.specs.Tab.{put}
 use Rattle.lists.proofs.Sorts.{each_at, each-tab}
 use Rattle.bin_section.specs.declared.section.BinSection.{BinSection}
-use Rattle.bin_section.specs.declared.overlaps.Common.{Common}
-use Rattle.bin_section.specs.declared.overlaps.Common.TheVariants.{Apart}
+use Rattle.std.specs.Prelude.{Option, None}
 use Rattle.bin_section.specs.Section.{section_at, zero_section}
 use Rattle.bin_section.specs.Boxes.{box_at}
 use Rattle.bin_section.specs.Inside.{Inside}
@@ -73,7 +72,7 @@ module _ (chambers store : List ℕ) (id : ℕ) where
       past _ _ (table_checks chambers store) _ (tables_pass chambers store d.sound_before)
       ∙ past_all _ _ (join_checks chambers store id) (p8, (p10, tt))
 
-  pub join_result : Done → join_of chambers store id ≡ with_common Apart (joined_in chambers store (chamber_of chambers id) (join_all (free_at chambers store (chamber_of chambers id))))
+  pub join_result : Done → join_of chambers store id ≡ with_common None (joined_in chambers store (chamber_of chambers id) (join_all (free_at chambers store (chamber_of chambers id))))
   unfolding join_of join_common join_done
   join_result d = ap (λ (o : Outcome). with_common (join_common free o.reply) o) (outcome_result d)
 
@@ -209,10 +208,10 @@ module _ (chambers store : List ℕ) (id : ℕ) where
   pub join_shares : (j : ℕ) → (join_of chambers store id).reply ≡ reply 10 j → (i : ℕ) × EarliestSpace (take j (free_at chambers store (chamber_of chambers id))) (box_at (free_at chambers store (chamber_of chambers id)) j) i (join_of chambers store id).common
   join_shares j e =
       let s = ((join_shared j).0 e).first in
-      subst (λ (c : Common). (i : ℕ) × EarliestSpace (take j free) (box_at free j) i c) (sym (common_at10 j e))
+      subst (λ (c : Option BinSection). (i : ℕ) × EarliestSpace (take j free) (box_at free j) i c) (sym (common_at10 j e))
       (earlier_space free j (omega (arith, s.below)) (some→shares free j s.earlier s.less s.shares))
 
   -- any other reply hands on none
-  pub join_none : ((join_of chambers store id).reply.number ≡ 10 → ⊥) → (join_of chambers store id).common ≡ Apart
+  pub join_none : ((join_of chambers store id).reply.number ≡ 10 → ⊥) → (join_of chambers store id).common ≡ None
   unfolding join_of join_outcome
   join_none = job_none chambers store (join_checks chambers store id) (join_done chambers store id) (join_common free) (no_common chambers store id)

@@ -1,9 +1,7 @@
 -- The join of free neighbours in one chamber, and the common box that it hands on.
-use Rattle.std.specs.Prelude.{ℕ, ◌+◌, ◌*◌, List, [], ◌∷◌, ◌++◌, cond, eqb, length, set}
+use Rattle.std.specs.Prelude.{ℕ, ◌+◌, ◌*◌, List, [], ◌∷◌, ◌++◌, cond, eqb, length, set, Option, None}
 use Rattle.lists.specs.Tab.{put}
 use Rattle.bin_section.specs.declared.section.BinSection.{BinSection}
-use Rattle.bin_section.specs.declared.overlaps.Common.{Common}
-use Rattle.bin_section.specs.declared.overlaps.Common.TheVariants.{Apart}
 use Rattle.replies.specs.declared.reply.Reply.{Reply}
 use Rattle.replies.specs.Replies.{Check, reply, each, in_order}
 use Rattle.sections.specs.Inside.{shares_earlier}
@@ -39,8 +37,8 @@ join_outcome chambers store id =
     in_order (table_checks chambers store ++ join_checks chambers store id) (refused chambers store) (join_done chambers store id)
 
 -- "joins with 10 hand it on beside the detail, audit and joins for the earliest box that the named one meets"; otherwise none
-unfoldable pub join_common : List BinSection → Reply → Common
-join_common free r = cond (eqb r.number 10) (earliest_common free r.detail) Apart
+unfoldable pub join_common : List BinSection → Reply → Option BinSection
+join_common free r = cond (eqb r.number 10) (earliest_common free r.detail) None
 
 -- all that a join answers and leaves, on every input
 unfoldable pub join_of : List ℕ → List ℕ → ℕ → CommonOutcome

@@ -1,7 +1,9 @@
 pub mod Fills
 pub mod Flags
+pub mod LowestIndex
 pub mod Inserts
 pub mod Kit
+pub mod LibrarySorts
 pub mod Lowests
 pub mod Picks
 pub mod Sorts

@@ -1,3 +1,4 @@
+pub mod Ranges
 pub mod Neighbouring
 pub mod Afterwards
 pub mod Exact

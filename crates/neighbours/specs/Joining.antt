@@ -1,5 +1,5 @@
 -- The free sections of one chamber, joined as long as two of them join.
-use Rattle.std.specs.Prelude.{ℕ, zero, suc, List, Bool, ◌&&◌, cond, ltb, length, set}
+use Rattle.std.specs.Prelude.{ℕ, zero, suc, List, Bool, ◌&&◌, cond, ltb, length, set, Option, Some, None}
 use Rattle.lists.specs.Lowest.{lowest, any_below}
 use Rattle.lists.specs.Tab.{remove_at}
 use Rattle.bin_section.specs.declared.section.BinSection.{BinSection}
@@ -24,6 +24,10 @@ unfoldable pub pair_of : List BinSection → Pair
 pair_of free =
     let i = lowest (length free) (joins_later free) in
     record { first = i; second = lowest (length free) (joins_with free i) }
+
+-- that pair, or none where no two join
+unfoldable pub first_pair : List BinSection → Option Pair
+first_pair free = cond (some_join free) (Some (pair_of free)) None
 
 -- "the joined box stands at the first, the second is removed, later ones move down"
 unfoldable pub joined_at : List BinSection → Pair → List BinSection

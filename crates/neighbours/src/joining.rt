@@ -2,13 +2,14 @@
 ghost use Rattle.std.specs.Prelude.{◌≡◌, ◌+◌, ◌*◌, ◌-◌, ◌≤◌, ◌<◌, length};
 ghost use Rattle.sections.specs.Sections.{sections};
 ghost use Rattle.lists.specs.Lowest.{lowest};
-ghost use Rattle.neighbours.specs.Joining.{joins_later, pair_of, joined_at, join_all};
-ghost use Rattle.neighbours.specs.Leaning.{AllEnd};
+ghost use Rattle.neighbours.specs.Joining.{joins_later, joined_at, join_all};
+ghost use Rattle.neighbours.specs.Leaning.{AllEnd, FirstJoined};
 
 use crate::neighbour::joined_box;
 use crate::pairs::{Pair, first_before, first_pair};
 use bin_section::BinSection;
 use sections::remove_section;
+use words::Record;
 
 // "the joined box stands at the first, the second is removed, later ones move down"
 fn join_pair(words: &mut [u32], n: usize, pair: Pair)
@@ -21,19 +22,14 @@ fn join_pair(words: &mut [u32], n: usize, pair: Pair)
     remove_section(words, n, pair.second);
 }
 
-// Joins the first pair that joins, and gives its first index; n where none joins. No section before index `from` joins with a later one.
-fn join_first(words: &mut [u32], n: usize, from: usize) -> usize
+// Joins the first pair that joins, and gives its first index, or none where no two join. No section before index `from` joins with a later one.
+fn join_first(words: &mut [u32], n: usize, from: usize) -> Option<usize>
     requires { (n * 6 ≤ length words.old) × AllEnd words.old n × (from ≤ lowest n (joins_later (sections words.old n))) }
-    ensures value { result ≡ (pair_of (sections words.old n)).first }
-    ensures n_after { result < n → sections words.new (n - 1) ≡ joined_at (sections words.old n) (pair_of (sections words.old n)) }
-    ensures words_unchanged { n ≤ result → words.new ≡ words.old }
+    ensures { FirstJoined n words.old words.new result }
 {
-    let pair = first_pair(words, n, from);
-    if n <= pair.first {
-        return pair.first;
-    }
+    let pair = first_pair(words, n, from)?;
     join_pair(words, n, pair);
-    pair.first
+    Some(pair.first)
 }
 
 // Joins pairs as long as two of the first n sections join; as many are left as is returned. The search begins again after each join, but for
@@ -45,13 +41,9 @@ pub fn join_all(words: &mut [u32], n: usize) -> usize
 {
     let mut left = n;
     let mut from = 0;
-    for _ in 0..n {
-        let first = join_first(words, left, from);
-        if left <= first {
-            return left;
-        }
+    while let Some(first) = join_first(words, left, from) {
         left -= 1;
-        from = first_before(words, first);
+        from = first_before(words, first).unwrap_or(first);
     }
     left
 }

@@ -15,6 +15,7 @@ use Rattle.bin_section.specs.Section.{section_at}
 use Rattle.bin_section.specs.Inside.{Inside}
 use Rattle.bin_section.proofs.Ranges.{SidesInRange, range→small}
 use Rattle.sections.specs.Sections.{sections}
+use Rattle.try_place.specs.Location.{location_box}
 use Rattle.try_place.specs.Leaning.{Reachable}
 use Rattle.try_place.proofs.Remaining.{BoxWithin}
 use Rattle.target_bin.specs.Chambers.{chamber_at, chamber_count}
@@ -29,7 +30,7 @@ use Rattle.grouped_rects_to_place.proofs.Checking.{rects_range}
 use Rattle.grouped_rects_to_place.proofs.Sizes.{groups_each}
 use Rattle.packing_rules.specs.Order.{trial_order}
 use Rattle.packing_rules.specs.Packing.{rects_at, trial_in, State, pack_groups, start, packing}
-use Rattle.packing_rules.specs.Promises.{location_box, BoxesAre}
+use Rattle.packing_rules.specs.Promises.{BoxesAre}
 use Rattle.packing_rules.proofs.Placings.{group_placings}
 use Rattle.packing_rules.proofs.Left.{Sided, placings_free, placings_boxes, inside_reachable, inside_passes}
 use Rattle.packing_rules.proofs.Seats.{empty_seat, seated_cases}

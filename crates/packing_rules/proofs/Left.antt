@@ -1,6 +1,6 @@
 -- What is placed and what is left free lies in the old sections: a fact of sections that passes on to the boxes within them passes on to both.
 use Prim.Native.Nat.{◌<◌}
-use mathlib.Core.Path.{◌≡◌, refl, ap}
+use mathlib.Core.Path.{◌≡◌, refl}
 use mathlib.Core.Logic.{⊎_elim}
 use mathlib.Core.List.{List, [], ◌∷◌}
 use mathlib.Core.Bool.{true, false, cond}
@@ -20,16 +20,14 @@ use Rattle.bin_section.specs.Sides.{volume_of}
 use Rattle.bin_section.specs.Leaning.{Small}
 use Rattle.bin_section.specs.Inside.{Inside}
 use Rattle.try_place.specs.declared.packed_location.PackedLocation.{PackedLocation}
-use Rattle.try_place.specs.declared.TryAnswer.TheVariants.{Placed}
-use Rattle.try_place.specs.declared.Tried.{Tried}
-use Rattle.try_place.specs.Try.{fit_of}
-use Rattle.try_place.specs.Leaning.{Reachable}
-use Rattle.try_place.proofs.Remaining.{BoxWithin, placed_within, placed_three}
-use Rattle.try_place.proofs.Trying.{fit_is}
+use Rattle.try_place.specs.Location.{location_in, location_box}
+use Rattle.try_place.specs.Try.{chosen_three}
+use Rattle.try_place.specs.Leaning.{Fitting, Reachable}
+use Rattle.try_place.proofs.Remaining.{BoxWithin, chosen_within, chosen_long}
+use Rattle.try_place.proofs.Trying.{fitting}
 use Rattle.packing_rules.specs.Appended.{larger, kept_one, kept, appended_of}
 use Rattle.packing_rules.specs.Rules.{placed, place_one}
-use Rattle.packing_rules.specs.Promises.{location_box}
-use Rattle.packing_rules.proofs.Placings.{Placings, no_more, then, location_in, placed_at}
+use Rattle.packing_rules.proofs.Placings.{Placings, no_more, then, placed_at}
 
 -- no zero side
 pub record Sided (whd : WidthHeightDepth) : Type 0 where
@@ -64,10 +62,10 @@ module _ {P : BinSection → Type 0} where
   appended_sided t p = kept_sided (sort_each larger p)
 
 -- what remains beside a rectangle in the section that takes it
-parts_within : (s : BinSection) (r : RectToInsert) → Reachable s → (fit_of s r).answer ≡ Placed (location_in s r) → Each (BoxWithin s) (fit_of s r).sections
-parts_within s r p e =
-    let w = placed_within s r (location_in s r) p e in
-    rw (three zero_section (fit_of s r).sections (placed_three s r (location_in s r) p e)) (also w.first (also w.second (also w.third none)))
+parts_within : (s : BinSection) (r : RectToInsert) → Fitting s r → Each (BoxWithin s) (chosen_three s r)
+parts_within s r f =
+    let w = chosen_within s r f in
+    rw (three zero_section (chosen_three s r) (chosen_long s r)) (also w.first (also w.second (also w.third none)))
 
 -- a fact of sections that passes on to each box within them that has no zero side
 module _ (P : BinSection → Type 0) (reach : (s : BinSection) → P s → Reachable s) (passes : (s b : BinSection) → P s → BoxWithin s b → Sided b.whd → P b) where
@@ -81,7 +79,7 @@ module _ (P : BinSection → Type 0) (reach : (s : BinSection) → P s → Reach
         rw q.1.left
         (each_append (each_remove q.0 ps)
         (each_map (λ b w. passes s b p w.0 w.1)
-        (appended_sided (fit_of s r).sections (parts_within s r (reach s p) (ap (λ (t : Tried). t.answer) (fit_is s r q.1.fits))))))
+        (appended_sided (chosen_three s r) (parts_within s r (fitting s r (reach s p) q.1.fits)))))
 
     pub one_box : Sided r.whd → P (location_box l)
     one_box v =

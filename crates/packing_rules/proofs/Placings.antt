@@ -7,14 +7,16 @@ use mathlib.Core.List.{List, [], ◌∷◌, ◌++◌, append_assoc, append-nil}
 use native.Mathlib.Nat.{eq-or-lt_of_le, le_of_suc-le-suc, lt-suc_self, le_step}
 use native.Mathlib.Omega.{arith}
 use lib.ListN.{length, get_or, length-map}
+use Rattle.std.proofs.Common.{Result, Ok, Err, MatchResult}
 use Rattle.lists.specs.Tab.{remove_at}
 use Rattle.bin_section.specs.declared.section.BinSection.{BinSection}
 use Rattle.bin_section.specs.declared.rect_to_insert.RectToInsert.{RectToInsert}
 use Rattle.bin_section.specs.Section.{zero_section}
 use Rattle.try_place.specs.declared.packed_location.PackedLocation.{PackedLocation}
-use Rattle.try_place.specs.declared.Tried.{Tried}
-use Rattle.try_place.specs.Try.{fit_of, Fits}
-use Rattle.try_place.proofs.Trying.{fit_or_not}
+use Rattle.try_place.specs.declared.fitting.BinSectionError.{BinSectionError}
+use Rattle.try_place.specs.Location.{location_in}
+use Rattle.try_place.specs.Try.{fit_of, Fits, on_placed, chosen_three}
+use Rattle.try_place.proofs.Refusing.{fit_told}
 use Rattle.grouped_rects_to_place.specs.declared.rect_to_place.RectToPlace.{RectToPlace}
 use Rattle.packing_rules.specs.Appended.{appended_of}
 use Rattle.packing_rules.specs.Rules.{One, nowhere, placed, place_from, place_one, Trial, stops, whole, after_one, next, place_all, place_group, is_whole}
@@ -22,13 +24,9 @@ use Rattle.packing_rules.specs.Packing.{rects_at}
 
 -- ---- one rectangle
 
--- the box at the section's origin
-abbrev pub location_in : BinSection → RectToInsert → PackedLocation
-location_in s r = record { x = s.x; y = s.y; z = s.z; whd = r.whd }
-
 -- what stays free when the section at i takes the rectangle: it "is removed, later ones move down one, and the chosen three are appended"
 abbrev pub free_without : List BinSection → RectToInsert → ℕ → List BinSection
-free_without free r i = remove_at i free ++ appended_of (fit_of (get_or free i zero_section) r).sections
+free_without free r i = remove_at i free ++ appended_of (chosen_three (get_or free i zero_section) r)
 
 -- of the first n sections the one at i is the last that fits: it takes the rectangle
 pub record PlacedAt (free : List BinSection) (r : RectToInsert) (l : PackedLocation) (free' : List BinSection) (n i : ℕ) : Type 0 where
@@ -64,11 +62,18 @@ module _ (free : List BinSection) (r : RectToInsert) where
   found : (n : ℕ) → Found free r n (place_from free r n)
   unfolding place_from
   found zero = refused (record { at = λ j h. absurd (omega arith) })
-  found (suc n) =
-      ⊎_elim
-      (λ f. rw f.1 (taken n (record { within = lt-suc_self n; fits = f.0; last = λ j a b. absurd (omega arith); here = refl; left = ap (λ (t : Tried). remove_at n free ++ appended_of t.sections) (sym f.1) })))
-      (λ q. rw (q.1 _ _) (later n q.0 (found n)))
-      (fit_or_not (get_or free n zero_section) r One)
+  found (suc n) = go (found n) (fit_of s r) (fit_told s r)
+    where
+      s : BinSection
+      s = get_or free n zero_section
+
+      go :
+          Found free r n (place_from free r n)
+          → (o : Result PackedLocation BinSectionError)
+          → MatchResult o (λ l. Fits s r × (l ≡ location_in s r)) (λ e. Fits s r → ⊥)
+          → Found free r (suc n) (on_placed o (λ l. placed l (remove_at n free ++ appended_of (chosen_three s r))) (place_from free r n))
+      go rest (Ok l) f = taken n (record { within = lt-suc_self n; fits = f.0; last = λ j a b. absurd (omega arith); here = f.1; left = refl })
+      go rest (Err e) f = later n f rest
 
   -- "the free sections are tried from the last to the first, the first that fits": so it is the last that fits
   pub placed_at : (l : PackedLocation) (free' : List BinSection) → place_one free r ≡ placed l free' → (i : ℕ) × PlacedAt free r l free' (length free) i

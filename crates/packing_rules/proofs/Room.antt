@@ -1,6 +1,6 @@
 -- Placing a rectangle leaves at most two sections more: so the store can't overflow past check 6.
 use Prim.Native.Nat.{ℕ, suc, ◌+◌, ◌*◌, ◌≤◌}
-use mathlib.Core.Path.{◌≡◌, ap, ◌∙◌}
+use mathlib.Core.Path.{◌≡◌, ap}
 use mathlib.Core.Logic.{⊎_elim}
 use mathlib.Core.List.{List, [], ◌∷◌, ◌++◌}
 use mathlib.Core.Bool.{true, false, cond}
@@ -21,13 +21,8 @@ use Rattle.bin_section.specs.Section.{zero_section}
 use Rattle.bin_section.specs.Sides.{volume_of}
 use Rattle.sections.proofs.Reading.{length-sections}
 use Rattle.try_place.specs.declared.packed_location.PackedLocation.{PackedLocation}
-use Rattle.try_place.specs.declared.Tried.{Tried}
-use Rattle.try_place.specs.Splits.{six_splits}
-use Rattle.try_place.specs.Choice.{chosen}
-use Rattle.try_place.specs.Try.{fit_of, Fits}
-use Rattle.try_place.proofs.Meaning.{chosen_below}
-use Rattle.try_place.proofs.Remaining.{row_long}
-use Rattle.try_place.proofs.Trying.{fit_is}
+use Rattle.try_place.specs.Try.{chosen_three}
+use Rattle.try_place.proofs.Remaining.{chosen_long}
 use Rattle.target_bin.specs.Chambers.{chamber_at, chamber_count}
 use Rattle.target_bin.specs.Store.{part_at, free_at, free_of}
 use Rattle.target_bin.proofs.Parts.{length-free_of, getd_free_of}
@@ -56,21 +51,18 @@ appended_most : (t : List BinSection) → length (appended_of t) ≤ length t
 unfolding appended_of
 appended_most t = omega (arith, kept_most (sort_by larger t), length_sort larger t)
 
-remain_three : (s : BinSection) (r : RectToInsert) → Fits s r → length (fit_of s r).sections ≡ 3
-remain_three s r f = ap (λ (t : Tried). length t.sections) (fit_is s r f) ∙ row_long s r (chosen (six_splits s r)) (chosen_below (six_splits s r))
-
 -- one section goes and at most three come
 one_room : (free : List BinSection) (r : RectToInsert) (l : PackedLocation) (free' : List BinSection) → place_one free r ≡ placed l free' → length free' ≤ length free + 2
 one_room free r l free' e =
     let q = placed_at free r l free' e in
-    let three = (fit_of (get_or free q.0 zero_section) r).sections in
+    let three = chosen_three (get_or free q.0 zero_section) r in
     omega (
       arith,
       ap length q.1.left,
       length-append (remove_at q.0 free) (appended_of three),
       length-remove_at q.0 free q.1.within,
       appended_most three,
-      remain_three (get_or free q.0 zero_section) r q.1.fits,
+      chosen_long (get_or free q.0 zero_section) r,
     )
 
 -- ---- a group

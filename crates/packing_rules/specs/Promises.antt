@@ -4,8 +4,9 @@ use Rattle.lists.specs.Sort.{Each}
 use Rattle.bin_section.specs.declared.rect_to_insert.RectToInsert.{RectToInsert}
 use Rattle.bin_section.specs.declared.section.BinSection.{BinSection}
 use Rattle.replies.specs.Replies.{reply}
-use Rattle.bin_section.specs.Section.{section, zero_section}
+use Rattle.bin_section.specs.Section.{zero_section}
 use Rattle.try_place.specs.declared.packed_location.PackedLocation.{PackedLocation}
+use Rattle.try_place.specs.Location.{location_box}
 use Rattle.try_place.specs.Try.{Fits}
 use Rattle.packing_rules.specs.Rules.{is_whole}
 use Rattle.grouped_rects_to_place.specs.declared.rect_to_place.RectToPlace.{RectToPlace}
@@ -33,10 +34,6 @@ pub record RefusedAt (order : List ℕ) (ids : ℕ → ℕ) (r : ℕ → RectToP
   pub stay : pack_groups order ids r earlier s ≡ ended (reply 0 0) e.after
   pub seven : e.reply ≡ reply 7 (get_or refused 0 0)
   pub none_serves : NoneServes order (rects_at r refused) e.after.frees
-
--- the box that is placed at a location
-abbrev pub location_box : PackedLocation → BinSection
-location_box l = section l.x l.y l.z l.whd
 
 -- a group is whole in one chamber or nowhere
 pub data WholeOrNowhere (order : List ℕ) (ids : ℕ → ℕ) (seats : List Seat) (group : List ℕ) : Type 0 where

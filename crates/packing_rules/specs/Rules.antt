@@ -5,7 +5,7 @@ use Rattle.bin_section.specs.declared.section.BinSection.{BinSection}
 use Rattle.bin_section.specs.declared.rect_to_insert.RectToInsert.{RectToInsert}
 use Rattle.bin_section.specs.Section.{zero_section}
 use Rattle.try_place.specs.declared.packed_location.PackedLocation.{PackedLocation}
-use Rattle.try_place.specs.Try.{fit_of, on_placed}
+use Rattle.try_place.specs.Try.{fit_of, on_placed, chosen_three}
 use Rattle.packing_rules.specs.Appended.{appended_of}
 
 -- one rectangle: no free section fits it, or where it goes and what is free afterwards
@@ -18,8 +18,8 @@ pub data One : Type 0 where
 unfoldable pub place_from : List BinSection → RectToInsert → ℕ → One
 place_from free r zero = nowhere
 place_from free r (suc n) =
-    let t = fit_of (get_or free n zero_section) r in
-    on_placed t.answer (λ l. placed l (remove_at n free ++ appended_of t.sections)) (place_from free r n)
+    let s = get_or free n zero_section in
+    on_placed (fit_of s r) (λ l. placed l (remove_at n free ++ appended_of (chosen_three s r))) (place_from free r n)
 
 unfoldable pub place_one : List BinSection → RectToInsert → One
 place_one free r = place_from free r (length free)

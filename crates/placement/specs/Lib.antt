@@ -1,2 +1,3 @@
 pub mod Placements
+pub mod Layouts
 pub mod Leaning

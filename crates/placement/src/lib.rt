@@ -1,14 +1,13 @@
 // The placement record: where a rectangle went, in the lent table.
 #![tactic(auto)]
 
-ghost use Rattle.std.specs.Prelude.{◌≡◌, ◌*◌};
-ghost use Rattle.lists.specs.Tab.{put};
-ghost use Rattle.placement.specs.Placements.{placement_width, placement_at, placement_words};
-ghost use Rattle.placement.specs.Leaning.{HasPlacement};
+ghost use Rattle.std.specs.Prelude.{◌≡◌};
+ghost use Rattle.placement.specs.Placements.{placement_at, placement_words};
+ghost use Rattle.placement.specs.Layouts.{placement_layout};
 
-use words::put_words;
+use words::Record;
 
-#[derive(Clone, Copy)]
+#[derive(Clone, Copy, Default, Debug, PartialEq, Eq)]
 pub struct Placement {
     pub placed: u32,
     pub chamber: u32,
@@ -22,32 +21,40 @@ impl Placement {
     pub const WORDS: usize = 5;
     // What the first word says of a placed rectangle.
     pub const PLACED: u32 = 1;
+}
 
-    // The record at index i of the table.
-    pub fn read(placements: &[u32], i: usize) -> Placement
-        requires { HasPlacement placements.now i }
-        ensures { result ≡ placement_at placements.now i }
-    {
-        let at = i * Placement::WORDS;
+// From its five words: 1 if placed else 0, chamber id, x, y, z.
+impl From<[u32; 5]> for Placement {
+    ghost from_gives = { λ words p. p ≡ placement_at words 0 };
+
+    #[tactic(auto, unfolding(crate::specs::Placements::placement_at))]
+    fn from([placed, chamber, x, y, z]: [u32; 5]) -> Placement {
         Placement {
-            placed: placements[at],
-            chamber: placements[at + 1],
-            x: placements[at + 2],
-            y: placements[at + 3],
-            z: placements[at + 4],
+            placed,
+            chamber,
+            x,
+            y,
+            z,
         }
     }
+}
 
-    // Writes the record to index i of the table.
-    pub fn write(self, placements: &mut [u32], i: usize)
-        requires { HasPlacement placements.old i }
-        ensures { placements.new ≡ put placements.old (i * placement_width) (placement_words self) }
-    {
-        let at = i * Placement::WORDS;
-        put_words(
-            placements,
-            at,
-            &[self.placed, self.chamber, self.x, self.y, self.z],
-        );
+impl From<Placement> for [u32; 5] {
+    ghost from_gives = { λ p words. words ≡ placement_words p };
+
+    fn from(p: Placement) -> [u32; 5] {
+        [p.placed, p.chamber, p.x, p.y, p.z]
     }
+}
+
+impl Record<5> for Placement {
+    ghost record_at = { placement_at };
+
+    ghost record_words = { λ p. placement_words p };
+
+    ghost layout = { placement_layout };
+
+    ghost from_words = { λ w p e. e };
+
+    ghost to_words = { λ p w e. e };
 }

@@ -1,18 +1,18 @@
 -- Laws of a chamber's counted sections, copied, and of the group placed on the copy.
-use Prim.Native.Nat.{ℕ, ◌+◌, ◌*◌, ◌-◌, ◌≤◌, ◌<◌}
+use Prim.Native.Nat.{ℕ, ◌*◌, ◌≤◌, ◌<◌}
 use mathlib.Core.Path.{◌≡◌, refl, sym, ap, ◌∙◌}
 use mathlib.Core.Bool.{Bool}
 use mathlib.Core.List.{List, []}
 use native.Mathlib.Omega.{arith}
-use lib.ListN.{length, get_or, take, drop}
+use lib.ListN.{length, get_or}
 use Rattle.lists.proofs.Sorts.{each_map}
 use Rattle.bin_section.specs.declared.section.BinSection.{BinSection}
 use Rattle.bin_section.specs.declared.rect_to_insert.RectToInsert.{RectToInsert}
 use Rattle.sections.specs.Sections.{sections}
 use Rattle.target_bin.specs.declared.chamber.TargetBin.{TargetBin}
 use Rattle.target_bin.specs.Chambers.{chamber_at, chamber_count}
-use Rattle.target_bin.specs.Store.{free_at, free_of}
-use Rattle.target_bin.proofs.Parts.{lent_part, part_room, getd_free_of}
+use Rattle.target_bin.specs.Store.{part_at, free_at, free_of}
+use Rattle.target_bin.proofs.Parts.{length-part_at, part_in, getd_free_of}
 use Rattle.grouped_rects_to_place.specs.declared.rect_to_place.RectToPlace.{RectToPlace}
 use Rattle.packing_rules.specs.Rules.{Trial, place_one, place_group}
 use Rattle.packing_rules.specs.Packing.{rects_at, trial_in, most_sections}
@@ -31,25 +31,22 @@ ready_part c st m n r h =
       room = λ k l. omega (arith, r.room k l, most_part (length (get_or (free_of c st) k [])) m n h);
     }
 
-module _ (c st : List ℕ) (k n : ℕ) (ready : Ready c st n) (here : k < chamber_count c) (bin : TargetBin) (read : bin ≡ chamber_at c k) where
-  -- the chamber's part, as it is lent
-  abbrev part : List ℕ
-  part = take (k * 768 + 768 - k * 768) (drop (k * 768) st)
-
+-- the chamber's part, as it is lent
+module _ (c st : List ℕ) (k n : ℕ) (ready : Ready c st n) (here : k < chamber_count c) (bin : TargetBin) (read : bin ≡ chamber_at c k) (part : List ℕ) (lent : part ≡ part_at st k) where
   count_few : bin.count ≤ 128
   count_few = omega (arith, ready.shaped.counted.counts k here, ap (λ (b : TargetBin). b.count) read)
 
-  pub part_holds : bin.count * 6 ≤ length (take (k * 768 + 768 - k * 768) (drop (k * 768) st))
-  part_holds = part_room st k bin.count count_few (omega (arith, ready.shaped.long))
+  pub part_holds : bin.count * 6 ≤ length part
+  part_holds = omega (arith, count_few, ap length lent, length-part_at st k (part_in c st k ready.shaped here))
 
-  pub copy_room : (copy : List ℕ) → length copy ≡ 768 → (bin.count * 6 ≤ length (take (k * 768 + 768 - k * 768) (drop (k * 768) st))) × (bin.count * 6 ≤ length copy)
+  pub copy_room : (copy : List ℕ) → length copy ≡ 768 → (bin.count * 6 ≤ length part) × (bin.count * 6 ≤ length copy)
   copy_room copy long = (part_holds, omega (arith, count_few))
 
   -- words that have the chamber's free sections: its part, or a copy of it
   module _ (w : List ℕ) (same : sections w bin.count ≡ sections part bin.count) where
     pub words_free : sections w bin.count ≡ get_or (free_of c st) k []
     unfolding free_at
-    words_free = same ∙ rw (lent_part st k, read) (sym (getd_free_of c st k [] here))
+    words_free = same ∙ rw (lent, read) (sym (getd_free_of c st k [] here))
 
     pub words_reaching : Reaching bin.count w
     words_reaching =

@@ -6,6 +6,7 @@ use native.Mathlib.Numerals.{add-one}
 use native.Mathlib.Omega.{arith}
 use lib.ListN.{length, get_or, take, drop, take-append-drop, length-map}
 use lib.Seq.{take-suc, take-length}
+use Rattle.std.proofs.Common.{Some, None}
 use Rattle.lists.specs.Tab.{tab}
 use Rattle.lists.proofs.Tabs.{tab_suc}
 use Rattle.bin_section.specs.Section.{section_at}
@@ -14,12 +15,11 @@ use Rattle.sections.specs.Leaning.{Appended}
 use Rattle.sections.proofs.Reading.{length-sections}
 use Rattle.try_place.specs.declared.packed_location.PackedLocation.{PackedLocation}
 use Rattle.grouped_rects_to_place.specs.Rect.{rect_at}
-use Rattle.packing_rules.specs.Rules.{nowhere, placed, place_one, stops, whole, after_one, place_all, place_group}
+use Rattle.packing_rules.specs.Rules.{nowhere, place_one, stops, whole, after_one, place_all, place_group}
 use Rattle.packing_rules.specs.Packing.{rects_at}
-use Rattle.packing_rules.specs.Promises.{location_box}
+use Rattle.try_place.specs.Location.{location_box}
 use Rattle.packing_rules.proofs.Placings.{trial_more, trial_stops}
 use Rattle.placing.specs.declared.place.PlacedRect.{PlacedRect}
-use Rattle.placing.specs.declared.place.Spot.TheVariants.{At, Nowhere}
 use Rattle.placing.specs.Leaning.{Reaching, RoomAfter, PlacedOne, rect_in, RoomThrough}
 use Rattle.placing.specs.Step.{as_location, locations_in}
 use Rattle.placing.proofs.Reaches.{still_reaching}
@@ -74,37 +74,34 @@ module _ (rects group : List ℕ) (count : ℕ) (w₀ table₀ : List ℕ) where
           }
 
       pub placing_more :
-          (q : PlacedRect) (l : PackedLocation) (w' table' : List ℕ)
+          (q : PlacedRect) (w' table' : List ℕ)
           → length w' ≡ length w
           → length table' ≡ length table
-          → q.spot ≡ At l
-          → PlacedOne left (rect_in rects (get_or group i 0)) q w w'
-          → locations_in table' (i + 1) ≡ locations_in table i ++ (l ∷ [])
+          → PlacedOne left (rect_in rects (get_or group i 0)) (Some q) w w'
+          → locations_in table' (i + 1) ≡ locations_in table i ++ (q.location ∷ [])
           → Placing rects group count w₀ table₀ (i + 1) q.count w' table'
-      placing_more q l w' table' lw lt e d f =
-          let a : placed l (sections w' q.count) ≡ place_one (sections w left) (rect_in rects (get_or group i 0)) = rw e at d.answer in
+      placing_more q w' table' lw lt d f =
           record {
             most = omega arith;
-            so_far = all_next ∙ ap (after_one (locations_in table i) (sections w left)) (sym a) ∙ ap (λ (ls : List PackedLocation). whole ls (sections w' q.count)) (sym f);
+            so_far = all_next ∙ ap (after_one (locations_in table i) (sections w left)) (sym d.answer) ∙ ap (λ (ls : List PackedLocation). whole ls (sections w' q.count)) (sym f);
             long = lw ∙ p.long;
             table_long = lt ∙ p.table_long;
-            reach = still_reaching left q.count (rect_in rects (get_or group i 0)) l w w' p.reach a;
+            reach = still_reaching left q.count (rect_in rects (get_or group i 0)) q.location w w' p.reach d.answer;
           }
 
       -- this rectangle stops the trial of the whole group, and the copy stays as it is
       pub placing_stops :
-          (q : PlacedRect) (w' : List ℕ)
-          → q.spot ≡ Nowhere
-          → PlacedOne left (rect_in rects (get_or group i 0)) q w w'
+          (w' : List ℕ)
+          → PlacedOne left (rect_in rects (get_or group i 0)) None w w'
           → stops i (sections w' left) ≡ place_group (sections w₀ count) (rects_at (rect_at rects) group)
       unfolding place_group
-      placing_stops q w' e d =
-          let a : nowhere ≡ place_one (sections w left) (rect_in rects (get_or group i 0)) = rw e at d.answer in
+      placing_stops w' d =
+          let a : nowhere ≡ place_one (sections w left) (rect_in rects (get_or group i 0)) = d.answer in
           let s : place_group (sections w₀ count) (rects_at (rect_at rects) (take (i + 1) group)) ≡ stops i (sections w left) =
           all_next
           ∙ ap (after_one (locations_in table i) (sections w left)) (sym a)
           ∙ ap (λ (k : ℕ). stops k (sections w left)) (length_locations table i) in
-          rw (d.none (sym a)).1
+          rw (d.none (sym a))
           (sym (rw (take-append-drop (i + 1) group) at (trial_stops (rect_at rects) (whole [] (sections w₀ count)) i (sections w left) (take (i + 1) group) (drop (i + 1) group) s)))
 
     pub placing_all :

@@ -1,5 +1,5 @@
 -- What functions below the jobs lean on and leave. No job's contract cites it, and a reader of the rules needs none of it.
-use Rattle.std.specs.Prelude.{ℕ, ◌*◌, ◌≤◌, ◌<◌, ◌≡◌, List, [], ◌++◌, Bool, true, false, length, get_or, take}
+use Rattle.std.specs.Prelude.{ℕ, ◌*◌, ◌≤◌, ◌<◌, ◌≡◌, List, [], ◌++◌, Bool, true, false, length, get_or, take, Option, Some, None}
 use Rattle.lists.specs.Sort.{Each}
 use Rattle.lists.specs.Tab.{remove_at}
 use Rattle.bin_section.specs.declared.section.BinSection.{BinSection}
@@ -9,7 +9,8 @@ use Rattle.sections.specs.Sections.{sections}
 use Rattle.bin_section.specs.declared.rect_to_insert.RectToInsert.{RectToInsert}
 use Rattle.bin_section.specs.Section.{section_at}
 use Rattle.try_place.specs.declared.packed_location.PackedLocation.{PackedLocation}
-use Rattle.try_place.specs.Try.{placed_of}
+use Rattle.try_place.specs.Location.{location_in}
+use Rattle.try_place.specs.Try.{chosen_three}
 use Rattle.try_place.specs.Leaning.{Reachable, Fitting}
 use Rattle.target_bin.specs.Chambers.{chamber_at, chamber_count}
 use Rattle.target_bin.specs.Leaning.{Shaped}
@@ -20,8 +21,6 @@ use Rattle.packing_rules.specs.Appended.{appended_of}
 use Rattle.packing_rules.specs.Rules.{One, nowhere, placed, place_one, whole, place_group}
 use Rattle.packing_rules.specs.Packing.{rect_of, rects_at, most_sections}
 use Rattle.placing.specs.declared.place.PlacedRect.{PlacedRect}
-use Rattle.placing.specs.declared.place.Spot.{Spot}
-use Rattle.placing.specs.declared.place.Spot.TheVariants.{At, Nowhere}
 
 -- each counted section ends at 65,535 at most
 pub record Reaching (count : ℕ) (w : List ℕ) : Type 0 where
@@ -34,31 +33,33 @@ abbrev pub is_somewhere : One → Bool
 is_somewhere nowhere = false
 is_somewhere (placed l free) = true
 
--- the section at i takes the rectangle, by the rules; where none does, i is count
-pub record TakenAt (count : ℕ) (r : RectToInsert) (i : ℕ) (w : List ℕ) : Type 0 where
-  pub most : i ≤ count
-  pub fits : i < count → Fitting (section_at w i) r
+-- the section at i takes the rectangle, by the rules
+pub record Taken (count : ℕ) (r : RectToInsert) (i : ℕ) (w : List ℕ) : Type 0 where
+  pub within : i < count
+  pub fits : Fitting (section_at w i) r
   pub here :
-      i < count
-      → place_one (sections w count) r
-      ≡ placed (record { x = (section_at w i).x; y = (section_at w i).y; z = (section_at w i).z; whd = r.whd })
-      (remove_at i (sections w count) ++ appended_of (placed_of (section_at w i) r).sections)
-  pub none : count ≤ i → place_one (sections w count) r ≡ nowhere
+      place_one (sections w count) r
+      ≡ placed (location_in (section_at w i) r) (remove_at i (sections w count) ++ appended_of (chosen_three (section_at w i) r))
+
+-- it does so, or none does
+abbrev pub TakenAt : ℕ → RectToInsert → Option ℕ → List ℕ → Type 0
+TakenAt count r (Some i) w = Taken count r i w
+TakenAt count r None w = place_one (sections w count) r ≡ nowhere
 
 -- the words have room for the free sections, and for those that are free once the rectangle is placed
 pub record RoomAfter (count : ℕ) (r : RectToInsert) (w : List ℕ) : Type 0 where
   pub here : count * 6 ≤ length w
   pub at : (l : PackedLocation) (free : List BinSection) → place_one (sections w count) r ≡ placed l free → length free * 6 ≤ length w
 
--- what the code's answer says, with the sections that it leaves
-abbrev pub one_of : Spot → List BinSection → One
-one_of (At l) free = placed l free
-one_of Nowhere free = nowhere
+-- what the code's answer says, with the words that it leaves
+abbrev pub one_of : Option PlacedRect → List ℕ → One
+one_of (Some p) w = placed p.location (sections w p.count)
+one_of None w = nowhere
 
 -- the answer and the sections afterwards are those of the rules; where none fits, no word changes
-pub record PlacedOne (count : ℕ) (r : RectToInsert) (p : PlacedRect) (w w' : List ℕ) : Type 0 where
-  pub answer : one_of p.spot (sections w' p.count) ≡ place_one (sections w count) r
-  pub none : place_one (sections w count) r ≡ nowhere → (p.count ≡ count) × (w' ≡ w)
+pub record PlacedOne (count : ℕ) (r : RectToInsert) (p : Option PlacedRect) (w w' : List ℕ) : Type 0 where
+  pub answer : one_of p w' ≡ place_one (sections w count) r
+  pub none : place_one (sections w count) r ≡ nowhere → w' ≡ w
 
 -- ---- a group
 

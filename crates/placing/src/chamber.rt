@@ -10,11 +10,12 @@ ghost use Rattle.placing.specs.Leaning.{is_somewhere, rect_in, GroupOf, Ready};
 ghost use Rattle.placing.specs.Step.{trial_of};
 
 use crate::place::last_fitting;
-use crate::step::{Step, place_group};
+use crate::step::{Stop, place_group};
 use bin_section::RectToInsert;
 use grouped_rects_to_place::RectToPlace;
 use sections::copy_sections;
 use target_bin::TargetBin;
+use words::Record;
 
 // Whether the chamber at k has a section that fits the rectangle at index i. It reads the store, and copies nothing.
 pub fn has_place(chambers: &[u32], store: &[u32], k: usize, rects: &[u32], i: usize) -> bool
@@ -22,12 +23,13 @@ pub fn has_place(chambers: &[u32], store: &[u32], k: usize, rects: &[u32], i: us
     ensures { result ≡ is_somewhere (place_one (get_or (free_of chambers.now store.now) k []) (rect_in rects.now i)) }
 {
     let bin = TargetBin::read(chambers, k);
-    let count = bin.count as usize;
-    let rect = RectToPlace::read(rects, i);
-    let whd = rect.whd;
-    let start = k * TargetBin::STORE;
-    let end = start + TargetBin::STORE;
-    last_fitting(&store[start..end], count, RectToInsert { whd }) < count
+    let whd = RectToPlace::read(rects, i).whd;
+    last_fitting(
+        &store[TargetBin::part(k)],
+        bin.count as usize,
+        RectToInsert { whd },
+    )
+    .is_some()
 }
 
 // "A group is tried in each chamber in turn": in the chamber at k.
@@ -39,7 +41,7 @@ pub fn place_in(
     group: &[usize],
     copy: &mut [u32],
     locations: &mut [u32],
-) -> Step
+) -> Result<usize, Stop>
     requires { Ready chambers.now store.now (length group.now)
         × (k < chamber_count chambers.now)
         × GroupOf rects.now group.now
@@ -50,8 +52,6 @@ pub fn place_in(
 {
     let bin = TargetBin::read(chambers, k);
     let count = bin.count as usize;
-    let start = k * TargetBin::STORE;
-    let end = start + TargetBin::STORE;
-    copy_sections(&store[start..end], count, copy);
+    copy_sections(&store[TargetBin::part(k)], count, copy);
     place_group(copy, count, rects, group, locations)
 }

@@ -7,4 +7,4 @@ mod place;
 mod step;
 
 pub use chamber::{has_place, place_in};
-pub use step::Step;
+pub use step::Stop;

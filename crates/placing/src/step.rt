@@ -9,49 +9,47 @@ ghost use Rattle.packing_rules.specs.Packing.{rects_at};
 ghost use Rattle.placing.specs.Leaning.{RoomAfter, Reaching, PlacedOne, rect_in, GroupOf, RoomThrough};
 ghost use Rattle.placing.specs.Step.{locations_in, trial_of};
 
-use crate::place::{PlacedRect, Spot, place_rect};
+use crate::place::{PlacedRect, place_rect};
 use bin_section::{BinSection, RectToInsert};
 use grouped_rects_to_place::RectToPlace;
 use sections::append_section;
 use try_place::PackedLocation;
+use words::Record;
 
-// What a step comes to.
-#[derive(Clone, Copy)]
-pub enum Step {
-    // All went in, each at its location; so many sections of the copy are free then.
-    Whole(usize),
-    // The rectangle at this place of the group fits no section; so many of the copy are free then.
-    Stops(usize, usize),
+// Where a step stops: the rectangle at this place of the group fits no section; so many of the copy are free then.
+#[derive(Clone, Copy, Debug, PartialEq, Eq)]
+pub struct Stop {
+    pub at: usize,
+    pub count: usize,
 }
 
 // The rectangle at an index of the table, placed.
-fn place_next(copy: &mut [u32], count: usize, rects: &[u32], i: usize) -> PlacedRect
+fn place_next(copy: &mut [u32], count: usize, rects: &[u32], i: usize) -> Option<PlacedRect>
     requires { RoomAfter count (rect_in rects.now i) copy.old × Reaching count copy.old × HasRect rects.now i }
     ensures { PlacedOne count (rect_in rects.now i) result copy.old copy.new }
 {
-    let rect = RectToPlace::read(rects, i);
-    let whd = rect.whd;
+    let whd = RectToPlace::read(rects, i).whd;
     place_rect(copy, count, RectToInsert { whd })
 }
 
 // Puts a location after the first n.
+#[tactic(auto, using(crate::proofs::Stepping::locations_more))]
 fn append_location(locations: &mut [u32], n: usize, location: PackedLocation)
     requires { n * 6 + 6 ≤ length locations.old }
     ensures { locations_in locations.new (n + 1) ≡ locations_in locations.old n ++ (location ∷ []) }
 {
-    let stands = BinSection::new(location.x, location.y, location.z, location.whd);
-    append_section(locations, n, stands);
+    append_section(locations, n, BinSection::from(location));
 }
 
 // "for each rectangle the free sections are tried": the group on the first `count` sections of the copy, in table order. The locations go to
-// the front of `locations`.
+// the front of `locations`. So many sections of the copy are free once all are in.
 pub fn place_group(
     copy: &mut [u32],
     count: usize,
     rects: &[u32],
     group: &[usize],
     locations: &mut [u32],
-) -> Step
+) -> Result<usize, Stop>
     requires { RoomThrough count (rect_at rects.now) group.now copy.old
         × Reaching count copy.old
         × GroupOf rects.now group.now
@@ -60,15 +58,12 @@ pub fn place_group(
         ≡ place_group (sections copy.old count) (rects_at (rect_at rects.now) group.now) }
 {
     let mut left = count;
-    let m = group.len();
-    for i in 0..m {
-        let placed = place_next(copy, left, rects, group[i]);
-        let spot = placed.spot;
-        let Spot::At(location) = spot else {
-            return Step::Stops(i, left);
+    for (i, &rect) in group.iter().enumerate() {
+        let Some(placed) = place_next(copy, left, rects, rect) else {
+            return Err(Stop { at: i, count: left });
         };
-        append_location(locations, i, location);
+        append_location(locations, i, placed.location);
         left = placed.count;
     }
-    Step::Whole(left)
+    Ok(left)
 }

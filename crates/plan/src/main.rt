@@ -5,15 +5,14 @@ ghost use Rattle.std.specs.Prelude.{IfSome, OnOk};
 ghost use Rattle.std.specs.Io.KnownBytes.{Appends};
 ghost use Rattle.planner.specs.Plan.{plan_of};
 
-use plan_list::ListRead;
-use plan_report::Report;
+use plan_list::PlanList;
 use planner::write_plan;
 use reading::read_full;
 use std::io;
 use std::io::{Read, Write};
 
 // One byte past the longest list: what is longer still gets the same report (`cut_plan` of the library's proofs).
-const MOST_READ: usize = ListRead::MOST + 1;
+const MOST_READ: usize = PlanList::MOST + 1;
 
 fn main(rt: HostRuntime) -> io::Result<()> {
     run(&mut rt.stdin(), &mut rt.stdout())
@@ -25,14 +24,5 @@ fn run<R: Read, W: Write>(input: &mut R, output: &mut W) -> io::Result<()>
 {
     let mut bytes = [0u8; MOST_READ];
     let n = read_full(input, &mut bytes)?;
-    answer(&bytes[..n], output)
-}
-
-// Packs a list and writes its report.
-fn answer<W: Write>(bytes: &[u8], output: &mut W) -> io::Result<()>
-    ensures report { OnOk result (Appends (W.contents output.old) (W.contents output.new) (plan_of bytes.now)) }
-{
-    let mut out = [0u8; Report::MOST];
-    let r = write_plan(bytes, &mut out);
-    output.write_all(&out[..r])
+    write_plan(&bytes[..n], output)
 }

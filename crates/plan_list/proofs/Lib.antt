@@ -1,9 +1,3 @@
-pub mod Choices
-pub mod Pieces
-pub mod Reaching
-pub mod Saying
-pub mod Comparing
-pub mod Entries
-pub mod Adding
 pub mod Lines
 pub mod Examples
+pub mod Small

@@ -2,5 +2,3 @@ pub mod Words
 pub mod Number
 pub mod Said
 pub mod List
-pub mod Table
-pub mod Leaning

@@ -1,4 +1,4 @@
-// The planner's list read: text to tables for a pack.
+// The planner's list read: text to chambers and coils.
 #![tactic(auto)]
 
 mod line_said;
@@ -7,5 +7,5 @@ mod list;
 mod number;
 mod slip;
 
-pub use list::{ListRead, read_list};
-pub use slip::Slip;
+pub use list::{OnLine, PlanList, read_list};
+pub use slip::{Slip, SlipAt};

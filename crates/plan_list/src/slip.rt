@@ -1,21 +1,25 @@
-// Slips of the pen, as the list's definition numbers them.
-#[derive(Clone, Copy)]
-pub struct Slip {}
+// Slips of the pen, and the line that one stands in.
+#[derive(Clone, Copy, Debug, PartialEq, Eq)]
+pub enum Slip {
+    // A line is neither a chamber nor a coil.
+    Neither,
+    // A chamber, or a coil, of another number of words.
+    ChamberWords,
+    CoilWords,
+    // The word at this place of its line, counted from 1, is no number from 0 to 4,294,967,295.
+    NoNumber(u32),
+    // More than 16 chambers, or 63 coils.
+    ManyChambers,
+    ManyCoils,
+    // The text is longer than 65,536 bytes.
+    TooLong,
+    // The third word of a coil is no group.
+    NoGroup,
+}
 
-impl Slip {
-    pub const NEITHER: u32 = 1;
-
-    pub const CHAMBER_WORDS: u32 = 2;
-
-    pub const COIL_WORDS: u32 = 3;
-
-    pub const NO_NUMBER: u32 = 4;
-
-    pub const MANY_CHAMBERS: u32 = 5;
-
-    pub const MANY_COILS: u32 = 6;
-
-    pub const TOO_LONG: u32 = 7;
-
-    pub const NO_GROUP: u32 = 8;
+// A slip, and the line of the list that it stands in, counted from 1.
+#[derive(Clone, Copy, Debug, PartialEq, Eq)]
+pub struct SlipAt {
+    pub line: u32,
+    pub slip: Slip,
 }

@@ -1,66 +1,25 @@
--- Loops over the coils: their texts written one after the other, and the placed ones counted.
-use Prim.Native.Nat.{ℕ, ◌+◌, ◌*◌, ◌≤◌, ◌<◌}
-use mathlib.Core.Path.{◌≡◌, refl, ap, ◌∙◌}
-use mathlib.Core.List.{List, ◌++◌}
-use mathlib.Core.Bool.{cond}
-use native.Mathlib.Numerals.{add-one}
-use native.Mathlib.Omega.{arith}
-use lib.ListN.{length}
-use Rattle.lists.specs.Pick.{picked}
-use Rattle.text.specs.Written.{Written}
-use Rattle.text.proofs.Writing.{written_as, written_none, written_then}
-use Rattle.plan_list.proofs.Lines.{picked_one}
-use Rattle.plan_report.specs.Texts.{coil_text, coil_texts, is_placed, placed_count}
+-- A text written for each element of a list, one after the other.
+use Rattle.std.proofs.Common.{◌≡◌, ℕ, ◌<◌, List, [], ◌∷◌, ◌++◌, length, take, get_or, flat_map, ap, ◌∙◌, sym, length-append, arith}
+use lib.Seq.{take_all}
+use Rattle.std.specs.declared.fmt.Formatter.{Formatter}
+use Rattle.std.specs.Fmt.{HasWritten}
+use Rattle.std.proofs.Output.{has_written_append, has_written_of_eq}
+use Rattle.std.proofs.lemmas.List.{take_more, flat_map_more}
 
--- i of n coils are written
-pub record CoilsWritten (coils placements : List ℕ) (at n : ℕ) (l₀ l : List ℕ) (next i : ℕ) : Type 0 where
-  pub most : i ≤ n
-  pub room : at + n * 80 ≤ length l₀
-  pub long : length l ≡ length l₀
-  pub written : Written at (coil_texts coils placements i) l₀ l next
-  pub short : next ≤ at + i * 80
+module _ {W X Y : Type 0} (took : W → List ℕ → W → Type 0) (f₀ : Formatter W) (h : X → List ℕ) (all : List X) (ys : List Y) where
+  pub each_more :
+      (y : Y) (x : X) (f g : Formatter W)
+      → (length ys < length all) × (x ≡ get_or all (length ys) x)
+      → HasWritten took f₀ (flat_map h (take (length ys) all)) f
+      → HasWritten took f (h x) g
+      → HasWritten took f₀ (flat_map h (take (length (ys ++ (y ∷ []))) all)) g
+  each_more y x f g (l, e) v w =
+      has_written_of_eq took _ _ _ _
+      (flat_map_more h [] (take (length ys) all) x
+      ∙ ap (λ t. flat_map h (take (length ys) all ++ (t ∷ []))) e
+      ∙ ap (flat_map h) (sym (take_more all (length ys) x l))
+      ∙ ap (λ n. flat_map h (take n all)) (sym (length-append ys (y ∷ []))))
+      (has_written_append took _ _ _ _ _ v w)
 
-module _ (coils placements : List ℕ) (at n : ℕ) (l₀ : List ℕ) where
-  pub coils_none : at + n * 80 ≤ length l₀ → CoilsWritten coils placements at n l₀ l₀ at 0
-  unfolding coil_texts
-  coils_none h = record { most = omega arith; room = h; long = refl; written = written_none; short = omega arith }
-
-  one_more : (i : ℕ) → coil_texts coils placements i ++ coil_text coils placements i ≡ coil_texts coils placements (i + 1)
-  unfolding coil_texts
-  one_more i = rw add-one
-
-  pub coils_more :
-      (l m : List ℕ) (next next' i : ℕ)
-      → CoilsWritten coils placements at n l₀ l next i
-      → i < n
-      → length m ≡ length l
-      → Written next (coil_text coils placements i) l m next' × (next' ≤ next + 80)
-      → CoilsWritten coils placements at n l₀ m next' (i + 1)
-  coils_more l m next next' i s h long (w, few) =
-      record {
-        most = omega arith;
-        room = s.room;
-        long = long ∙ s.long;
-        written = written_as (one_more i) (written_then (omega (arith, s.room, s.short)) s.written w);
-        short = omega (arith, s.short);
-      }
-
-  pub coils_all :
-      (l : List ℕ) (next i : ℕ)
-      → CoilsWritten coils placements at n l₀ l next i
-      → n ≤ i
-      → Written at (coil_texts coils placements n) l₀ l next × (next ≤ at + n * 80)
-  coils_all l next i s h =
-      let e : i ≡ n = omega (arith, s.most) in
-      (written_as (ap (coil_texts coils placements) e) s.written, omega (arith, s.short))
-
--- ---- the placed ones counted
-
-module _ (placements : List ℕ) where
-  pub counted_none : 0 ≡ placed_count placements 0
-  unfolding placed_count picked
-  counted_none = refl
-
-  pub counted_more : (count i one : ℕ) → count ≡ placed_count placements i → one ≡ cond (is_placed placements i) 1 0 → count + one ≡ placed_count placements (i + 1)
-  unfolding placed_count
-  counted_more count i one e f = rw (picked_one i (is_placed placements), e, f)
+  pub each_all : (f : Formatter W) → length ys ≡ length all → HasWritten took f₀ (flat_map h (take (length ys) all)) f → HasWritten took f₀ (flat_map h all) f
+  each_all f e = has_written_of_eq took _ _ _ _ (ap (flat_map h) (take_all (length ys) all (omega arith)))

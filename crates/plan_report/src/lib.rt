@@ -8,5 +8,5 @@ mod report;
 mod slips;
 mod summary;
 
-pub use report::{Report, write_report};
-pub use slips::write_slip;
+pub use report::Report;
+pub use slips::SlipReport;

@@ -1,21 +1,21 @@
 // What several texts have in common.
-ghost use Rattle.std.specs.Prelude.{◌+◌, ◌≤◌, length};
-ghost use Rattle.text.specs.Written.{Written};
-ghost use Rattle.plan_report.specs.Texts.{line_tag, nothing_placed};
+ghost use Rattle.std.specs.Prelude.{Some};
+ghost use Rattle.plan_report.specs.Texts.{line_tag};
 
-use text::{write_item, write_text};
+use std::fmt;
 
-pub fn write_line_tag(out: &mut [u8], at: usize, line: u32) -> usize
-    requires { at + 17 ≤ length out.old }
-    ensures { Written at (line_tag line) out.old out.new result × (result ≤ at + 17) }
-{
-    let next = write_item(out, at, b"line ", line);
-    write_text(out, next, b": ")
-}
+pub const NOTHING_PLACED: &str = "nothing is placed\n";
 
-pub fn write_nothing_placed(out: &mut [u8], at: usize) -> usize
-    requires { at + 18 ≤ length out.old }
-    ensures { Written at nothing_placed out.old out.new result × (result ≤ at + 18) }
-{
-    write_text(out, at, b"nothing is placed\n")
+// The line of the list that a text is about.
+#[derive(Clone, Copy)]
+pub struct LineTag(pub u32);
+
+impl fmt::Display for LineTag {
+    ghost output = { λ tag. Some (line_tag tag.0) };
+
+    #[tactic(auto, using(text::proofs::Displaying::decimal_std), unfolding(crate::specs::Texts::line_tag))]
+    fn fmt<W: fmt::Write>(&self, f: &mut fmt::Formatter<W>) -> fmt::Result {
+        let LineTag(line) = *self;
+        write!(f, "line {line}: ")
+    }
 }

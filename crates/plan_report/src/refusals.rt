@@ -1,72 +1,76 @@
 // A refusal: its number, what that means, and the line of the list that it points at.
-ghost use Rattle.std.specs.Prelude.{◌≡◌, ◌+◌, ◌≤◌, length, get_or};
-ghost use Rattle.text.specs.Written.{Written};
-ghost use Rattle.plan_report.specs.Texts.{refusal_text, refusal, names_chamber, refused_line};
+ghost use Rattle.std.specs.Prelude.{◌≡◌, Some};
+ghost use Rattle.replies.specs.Replies.{refusal_reply};
+ghost use Rattle.plan_report.specs.Texts.{refusal_text, refusal, names_chamber, line_at, refused_line};
 
-use crate::phrases::write_line_tag;
-use replies::Reply;
-use text::{write_item, write_text};
+use crate::phrases::LineTag;
+use plan_list::{OnLine, PlanList};
+use replies::{Refusal, Reply};
+use std::fmt;
 
-fn write_refusal_text(out: &mut [u8], at: usize, number: u32) -> usize
-    requires { at + 107 ≤ length out.old }
-    ensures { Written at (refusal_text number) out.old out.new result × (result ≤ at + 107) }
+// What a refusal means.
+#[tactic(auto, unfolding(crate::specs::Texts::refusal_text))]
+fn meaning(refusal: Refusal) -> &'static str
+    ensures { result.now ≡ refusal_text (refusal_reply refusal).number }
 {
-    if number == Reply::BAD_CHAMBER {
-        return write_text(
-            out,
-            at,
-            b"the chamber's id is not above the one before it, or a side is not 1 to 65535\n",
-        );
+    match refusal {
+        Refusal::BadChamber(_) =>
+            "the chamber's id is not above the one before it, or a side is not 1 to 65535\n",
+        Refusal::BadRectangle(_) => "a side of the coil is not 1 to 65535\n",
+        Refusal::SameId(_) => "the coil's id stands on an earlier line too\n",
+        Refusal::NotEnoughBinSpace(_) =>
+            "no chamber takes the coil with its whole group; it waits, and so do the groups after it, by falling volume\n",
+        _ => "the list can't be packed\n",
     }
-    if number == Reply::BAD_RECTANGLE {
-        return write_text(out, at, b"a side of the coil is not 1 to 65535\n");
-    }
-    if number == Reply::SAME_ID {
-        return write_text(out, at, b"the coil's id stands on an earlier line too\n");
-    }
-    if number == Reply::NOT_ENOUGH_BIN_SPACE {
-        return write_text(
-            out,
-            at,
-            b"no chamber takes the coil with its whole group; it waits, and so do the groups after it, by falling volume\n",
-        );
-    }
-    write_text(out, at, b"the list can't be packed\n")
 }
 
-pub fn write_refusal(out: &mut [u8], at: usize, line: u32, number: u32) -> usize
-    requires { at + 149 ≤ length out.old }
-    ensures { Written at (refusal line number) out.old out.new result × (result ≤ at + 149) }
-{
-    let tag = write_line_tag(out, at, line);
-    let refused = write_item(out, tag, b"refused with ", number);
-    let next = write_text(out, refused, b": ");
-    write_refusal_text(out, next, number)
+// A refusal, and the line of the list that it points at.
+#[derive(Clone, Copy)]
+pub struct Refused {
+    pub line: u32,
+    pub refusal: Refusal,
 }
 
-// The line at an index, 0 past the end.
-fn line_at(lines: &[u32], i: usize) -> u32
-    ensures { result ≡ get_or lines.now i 0 }
-{
-    if i < lines.len() {
-        return lines[i];
+impl fmt::Display for Refused {
+    ghost output = { λ refused. Some (refusal refused.line (refusal_reply refused.refusal).number) };
+
+    #[tactic(auto, using(text::proofs::Displaying::decimal_std), unfolding(crate::specs::Texts::refusal))]
+    fn fmt<W: fmt::Write>(&self, f: &mut fmt::Formatter<W>) -> fmt::Result {
+        let number = Reply::from(self.refusal).number;
+        write!(
+            f,
+            "{}refused with {number}: {}",
+            LineTag(self.line),
+            meaning(self.refusal)
+        )
     }
-    0
 }
 
-// Whether the detail of a reply is a chamber's index.
-fn names_chamber(number: u32) -> bool
-    ensures { result ≡ names_chamber number }
+// The line at an index. Where there is none the report says 0, by the definition of `refused_line`.
+fn line_at<T>(entries: &[OnLine<T>], i: u32) -> u32
+    ensures { result ≡ line_at entries.now i }
 {
-    (number == Reply::BAD_CHAMBER) | ((number == Reply::BAD_SECTION) | (number == Reply::NO_ROOM))
+    entries.get(i as usize).map_or(0, |entry| entry.line)
 }
 
-pub fn refused_line(chamber_lines: &[u32], coil_lines: &[u32], answer: Reply) -> u32
-    ensures { result ≡ refused_line chamber_lines.now coil_lines.now answer }
+// Whether the detail of a refusal is a chamber's index.
+fn names_chamber(refusal: Refusal) -> bool
+    ensures { result ≡ names_chamber (refusal_reply refusal).number }
 {
-    let i = answer.detail as usize;
-    if names_chamber(answer.number) {
-        return line_at(chamber_lines, i);
+    matches!(
+        refusal,
+        Refusal::BadChamber(_) | Refusal::BadSection(_) | Refusal::NoRoom(_)
+    )
+}
+
+// The line of the list that a refusal points at.
+#[tactic(auto, unfolding(crate::specs::Texts::refused_line))]
+pub fn refused_line(list: &PlanList, refusal: Refusal) -> u32
+    ensures { result ≡ refused_line list.now (refusal_reply refusal) }
+{
+    let detail = Reply::from(refusal).detail;
+    if names_chamber(refusal) {
+        return line_at(&list.chambers, detail);
     }
-    line_at(coil_lines, i)
+    line_at(&list.coils, detail)
 }

@@ -1,46 +1,50 @@
 // The report of a pack.
-ghost use Rattle.std.specs.Prelude.{◌≤◌, length};
-ghost use Rattle.text.specs.Written.{Written};
-ghost use Rattle.placement.specs.Leaning.{HasPlacements};
-ghost use Rattle.grouped_rects_to_place.specs.Leaning.{HasRects};
+ghost use Rattle.std.specs.Prelude.{Some};
+ghost use Rattle.replies.specs.Replies.{job_reply};
 ghost use Rattle.plan_report.specs.Texts.{pack_report};
 
-use crate::coils::write_coils;
-use crate::phrases::write_nothing_placed;
-use crate::refusals::{refused_line, write_refusal};
-use crate::summary::write_summary;
-use replies::Reply;
+use crate::coils::Coils;
+use crate::phrases::NOTHING_PLACED;
+use crate::refusals::{Refused, refused_line};
+use crate::summary::Summary;
+use placement::Placement;
+use plan_list::PlanList;
+use replies::Refusal;
+use std::fmt;
 
+// A list, a placement for each of its coils, and what the pack answered.
 #[derive(Clone, Copy)]
-pub struct Report {}
-
-impl Report {
-    // No report is longer.
-    pub const MOST: usize = 8192;
+pub struct Report<'a> {
+    pub list: &'a PlanList,
+    pub placements: &'a [Placement],
+    pub answer: Result<(), Refusal>,
 }
 
-pub fn write_report(
-    out: &mut [u8],
-    chamber_lines: &[u32],
-    coil_lines: &[u32],
-    coils: &[u32],
-    placements: &[u32],
-    answer: Reply,
-) -> usize
-    requires { (length coil_lines.now ≤ 63) × HasRects coils.now (length coil_lines.now) × HasPlacements placements.now (length coil_lines.now) × (8192 ≤ length out.old) }
-    ensures { Written 0 (pack_report chamber_lines.now coil_lines.now coils.now placements.now answer) out.old out.new result × (result ≤ 8192) }
-{
-    let n = coil_lines.len();
-    if answer.number == Reply::DONE {
-        let next = write_coils(out, 0, coils, placements, n);
-        return write_summary(out, next, placements, n);
+impl fmt::Display for Report<'_> {
+    ghost output = { λ r. Some (pack_report r.list.now r.placements.now (job_reply r.answer)) };
+
+    #[tactic(auto, unfolding(crate::specs::Texts::nothing_placed, crate::specs::Texts::pack_report))]
+    fn fmt<W: fmt::Write>(&self, f: &mut fmt::Formatter<W>) -> fmt::Result {
+        let Report {
+            list,
+            placements,
+            answer,
+        } = *self;
+        let coils = Coils {
+            coils: &list.coils,
+            placements,
+        };
+        let summary = Summary(placements);
+        let Err(refusal) = answer else {
+            return write!(f, "{coils}{summary}");
+        };
+        let refused = Refused {
+            line: refused_line(list, refusal),
+            refusal,
+        };
+        match refusal {
+            Refusal::NotEnoughBinSpace(_) => write!(f, "{coils}{refused}{summary}"),
+            _ => write!(f, "{refused}{NOTHING_PLACED}"),
+        }
     }
-    let line = refused_line(chamber_lines, coil_lines, answer);
-    if answer.number == Reply::NOT_ENOUGH_BIN_SPACE {
-        let next = write_coils(out, 0, coils, placements, n);
-        let refused = write_refusal(out, next, line, Reply::NOT_ENOUGH_BIN_SPACE);
-        return write_summary(out, refused, placements, n);
-    }
-    let next = write_refusal(out, 0, line, answer.number);
-    write_nothing_placed(out, next)
 }

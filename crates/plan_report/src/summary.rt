@@ -1,41 +1,31 @@
 // How many coils are placed, and how many wait.
-ghost use Rattle.std.specs.Prelude.{◌≡◌, cond, ◌+◌, ◌≤◌, length};
-ghost use Rattle.text.specs.Written.{Written};
-ghost use Rattle.placement.specs.Leaning.{HasPlacement, HasPlacements};
-ghost use Rattle.plan_report.specs.Texts.{is_placed, placed_count, summary};
+ghost use Rattle.std.specs.Prelude.{◌≡◌, ◌≤◌, Some, length};
+ghost use Rattle.plan_report.specs.Texts.{placed_count, summary};
 
+use crate::coils::is_placed;
 use placement::Placement;
-use text::{write_decimal, write_item, write_text};
+use std::fmt;
 
-// 1 where the coil at an index is placed.
-fn one_placed(placements: &[u32], i: usize) -> u32
-    requires { HasPlacement placements.now i }
-    ensures { (result ≡ cond (is_placed placements.now i) 1 0) × (result ≤ 1) }
+#[tactic(auto, unfolding(crate::specs::Texts::placed_count))]
+fn placed_count(placements: &[Placement]) -> usize
+    ensures { (result ≡ placed_count placements.now) × (result ≤ length placements.now) }
 {
-    if Placement::read(placements, i).placed == Placement::PLACED {
-        return 1;
-    }
-    0
+    placements
+        .iter()
+        .filter(|placement| is_placed(placement))
+        .count()
 }
 
-fn count_placed(placements: &[u32], n: usize) -> u32
-    requires { (n ≤ 63) × HasPlacements placements.now n }
-    ensures { (result ≡ placed_count placements.now n) × (result ≤ n) }
-{
-    let mut count: u32 = 0;
-    for i in 0..n {
-        count += one_placed(placements, i);
-    }
-    count
-}
+#[derive(Clone, Copy)]
+pub struct Summary<'a>(pub &'a [Placement]);
 
-pub fn write_summary(out: &mut [u8], at: usize, placements: &[u32], n: usize) -> usize
-    requires { (at + 38 ≤ length out.old) × (n ≤ 63) × HasPlacements placements.now n }
-    ensures { Written at (summary placements.now n) out.old out.new result × (result ≤ at + 38) }
-{
-    let placed = count_placed(placements, n);
-    let waiting = (n as u32) - placed;
-    let past_placed = write_decimal(out, at, placed);
-    let past_waiting = write_item(out, past_placed, b" placed, ", waiting);
-    write_text(out, past_waiting, b" waiting\n")
+impl fmt::Display for Summary<'_> {
+    ghost output = { λ s. Some (summary s.0.now) };
+
+    #[tactic(auto, using(text::proofs::Displaying::decimal_std), unfolding(crate::specs::Texts::summary))]
+    fn fmt<W: fmt::Write>(&self, f: &mut fmt::Formatter<W>) -> fmt::Result {
+        let placed = placed_count(self.0);
+        let waiting = self.0.len() - placed;
+        write!(f, "{placed} placed, {waiting} waiting\n")
+    }
 }

@@ -1,3 +1,4 @@
+pub mod Filling
 pub mod Packing
-pub mod Fronts
 pub mod Cutting
+pub mod Short

@@ -1,27 +1,21 @@
 -- Laws of a list packed.
-use Prim.Native.Nat.{ℕ}
-use mathlib.Core.Path.{◌≡◌, sym, ap, ◌∙◌}
-use mathlib.Core.List.{List}
-use borrow.Author.Tests.{eq-eqb, ne_eqb}
-use lib.Dec.{eqb}
-use Rattle.lists.proofs.Flags.{cond_yes, cond_no}
-use Rattle.replies.specs.declared.reply.Reply.{Reply}
-use Rattle.target_bin.specs.Outcome.{Outcome, outcome}
-use Rattle.target_bin.specs.Fresh.{fresh_of}
-use Rattle.rectangle_pack.specs.Pack.{PackOutcome, pack_outcome, pack_of}
-use Rattle.planner.specs.Packed.{packed_after, pack_fresh}
+use Rattle.std.proofs.Common.{◌≡◌, ℕ, List, ◌*◌, ◌≤◌, length, take, replicate}
+use native.Mathlib.Nat.{mul-le-mul_right}
+use Rattle.std.proofs.lemmas.List.{take-replicate}
+use Rattle.plan_list.specs.declared.list.PlanList.{PlanList}
+use Rattle.planner.specs.Packed.{pack_fresh, chamber_table, coil_table, packed_list}
 
-module _ (r : Reply) (a b a' b' c d : List ℕ) (e : outcome r a' b' ≡ fresh_of a b) where
-  opened : packed_after (outcome r a' b') c d ≡ pack_fresh a b c d
-  unfolding pack_fresh
-  opened = ap (λ (f : Outcome). packed_after f c d) e
+-- tables of the lengths that a list asks for
+pub packed_is :
+    (l : PlanList) (chambers store coils placements : List ℕ)
+    → chambers ≡ chamber_table l.chambers.items
+    → store ≡ replicate (length l.chambers.items * 768) 0
+    → coils ≡ coil_table l.coils.items
+    → placements ≡ replicate (length l.coils.items * 5) 0
+    → pack_fresh chambers store coils placements ≡ packed_list l
+unfolding packed_list
+packed_is l chambers store coils placements a b c d = rw (a, b, c, d)
 
-  pub fresh-refused : ¬ (r.number ≡ 0) → pack_outcome r a' b' d ≡ pack_fresh a b c d
-  unfolding packed_after
-  fresh-refused n =
-      sym (cond_no (pack_of a' b' c d) (pack_outcome r a' b' d) (eqb r.number 0) (ne_eqb r.number 0 n)) ∙ opened
-
-  pub fresh-packed : (x : PackOutcome) → r.number ≡ 0 → x ≡ pack_of a' b' c d → x ≡ pack_fresh a b c d
-  unfolding packed_after
-  fresh-packed x z p =
-      p ∙ sym (cond_yes (pack_of a' b' c d) (pack_outcome r a' b' d) (eqb r.number 0) (eq-eqb r.number 0 z)) ∙ opened
+-- as many zeros as are lent of a longer table of zeros
+pub zeros_lent : (k most n m : ℕ) → n ≤ most → n ≡ m → take (n * k) (replicate {A = ℕ} (most * k) 0) ≡ replicate (m * k) 0
+zeros_lent k most n m h e = rw (← e) (take-replicate (n * k) (most * k) 0 (mul-le-mul_right k h))

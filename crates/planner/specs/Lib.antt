@@ -1,3 +1,2 @@
 pub mod Packed
 pub mod Plan
-pub mod Leaning

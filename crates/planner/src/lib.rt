@@ -1,7 +1,9 @@
-// The planner's job on bytes: a list read and packed, and the report of it.
+// The planner's job on bytes: a list read and packed, and the report of it written.
 #![tactic(auto)]
 
 mod packed;
 mod plan;
+mod tables;
 
-pub use plan::write_plan;
+pub use packed::Packed;
+pub use plan::{Planned, plan_text, write_plan};

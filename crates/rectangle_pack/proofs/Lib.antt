@@ -1,6 +1,5 @@
 pub mod Checked
 pub mod Ending
-pub mod Orders
 pub mod Running
 pub mod Seating
 pub mod Serving

@@ -1,15 +1,17 @@
 -- Laws of the packing group by group: the state that the tables hold, and the groups that are left.
-use Prim.Native.Nat.{ℕ, ◌+◌, ◌*◌, ◌-◌, ◌/◌, ◌≤◌, ◌<◌}
+use Prim.Native.Nat.{ℕ, ◌+◌, ◌*◌, ◌/◌, ◌≤◌, ◌<◌}
 use mathlib.Core.Path.{◌≡◌, refl, sym, ap, ◌∙◌}
-use mathlib.Core.List.{List, [], ◌∷◌}
+use mathlib.Core.List.{List, [], ◌∷◌, map}
 use mathlib.Core.Bool.{true}
 use native.Mathlib.Numerals.{add-one}
 use native.Mathlib.Omega.{arith}
-use lib.ListN.{length, get_or, take, drop, length-map, get_or-map, drop_of_length-le}
-use lib.Seq.{drop-cons, get_or-take, ext_get_or}
+use lib.ListN.{length, get_or, drop, length-map, get_or-map, drop_of_length-le}
+use lib.Seq.{drop-cons, ext_get_or}
+use Rattle.std.proofs.Common.{Some}
+use Rattle.std.proofs.lemmas.List.{get_or_default}
 use Rattle.lists.specs.Sort.{Each}
-use Rattle.lists.proofs.Picks.{pick_each}
-use Rattle.lists.proofs.Sorts.{sort_each, each_at}
+use Rattle.lists.proofs.Picks.{pick_each, length_pick}
+use Rattle.lists.proofs.Sorts.{sort_each, each_at, each_map}
 use Rattle.lists.proofs.Tabs.{length-tab, getd_tab}
 use Rattle.lists.proofs.Totals.{total}
 use Rattle.replies.specs.declared.reply.Reply.{Reply}
@@ -22,20 +24,21 @@ use Rattle.target_bin.specs.Store.{free_at, free_of, store_of}
 use Rattle.target_bin.proofs.Parts.{getd_free_of, store_encoded}
 use Rattle.target_bin.proofs.Tables.{table_encoded}
 use Rattle.grouped_rects_to_place.specs.declared.rect_to_place.RectToPlace.{RectToPlace}
-use Rattle.grouped_rects_to_place.specs.Leaning.{Listed}
+use Rattle.grouped_rects_to_place.specs.declared.sorting.Lead.{Lead}
+use Rattle.grouped_rects_to_place.specs.Leaning.{lead_with}
 use Rattle.grouped_rects_to_place.specs.Rect.{rect_count}
-use Rattle.grouped_rects_to_place.specs.Groups.{is_lead, members, earlier, group_order, groups_of}
+use Rattle.grouped_rects_to_place.specs.Groups.{same_group, is_lead, members, earlier, group_order, groups_of}
 use Rattle.grouped_rects_to_place.proofs.Sizes.{groups_total, group_of}
 use Rattle.placement.specs.Leaning.{HasPlacements}
 use Rattle.packing_rules.specs.Order.{trial_order}
 use Rattle.packing_rules.specs.Seats.{Seat, seated}
 use Rattle.packing_rules.specs.Packing.{rects_at, state, Ended, pack_groups}
+use Rattle.packing_rules.specs.Promises.{NoneServes}
 use Rattle.packing_rules.proofs.TrialOrders.{trial_below}
 use Rattle.packing_rules.proofs.Turns.{turn_served, turn_refused, no_turn}
 use Rattle.placing.specs.Leaning.{GroupOf, Ready}
 use Rattle.placing.specs.Step.{locations_in}
 use Rattle.rectangle_pack.specs.declared.groups.Fit.{Fit}
-use Rattle.rectangle_pack.specs.declared.groups.Fit.TheVariants.{In, Nowhere}
 use Rattle.rectangle_pack.specs.Pack.{bins_with, pack_outcome, written}
 use Rattle.rectangle_pack.specs.Records.{placements_of}
 use Rattle.rectangle_pack.specs.Leaning.{SameShape, Grouped, SeatsFor, Seated, PackedTo, GroupsPacked, Clean, Tidied}
@@ -49,29 +52,67 @@ same_through a b c p q =
 
 -- ---- the groups one after the other, as the code comes to them: by their leads
 
-module _ (n : ℕ) (r : ℕ → RectToPlace) (leads : List ℕ) (led : leads ≡ group_order n r) where
-  groups_long : length (groups_of n r) ≡ length leads
+module _ (n : ℕ) (r : ℕ → RectToPlace) where
+  groups_long : length (groups_of n r) ≡ length (group_order n r)
   unfolding groups_of
-  groups_long = length-map (group_order n r) (members n r) ∙ ap length (sym led)
+  groups_long = length-map (group_order n r) (members n r)
 
-  module _ (i : ℕ) (h : i < length leads) where
-    group_next : drop i (groups_of n r) ≡ members n r (get_or leads i 0) ∷ drop (i + 1) (groups_of n r)
+  module _ (i : ℕ) (h : i < length (group_order n r)) (lead : ℕ) (at : lead ≡ get_or (group_order n r) i 0) where
+    group_next : drop i (groups_of n r) ≡ members n r lead ∷ drop (i + 1) (groups_of n r)
     unfolding groups_of
-    group_next = rw (add-one, drop-cons (groups_of n r) i (members n r 0) (omega (arith, groups_long)), get_or-map (members n r) (group_order n r) i 0, ← led)
+    group_next = rw (add-one, at, drop-cons (groups_of n r) i (members n r 0) (omega (arith, groups_long)), get_or-map (members n r) (group_order n r) i 0)
 
-    lead_told : (get_or leads i 0 < n) × (is_lead r (get_or leads i 0) ≡ true)
+    lead_told : (lead < n) × (is_lead r lead ≡ true)
     unfolding group_order
-    lead_told =
-        let all : Each (λ j. (j < n) × (is_lead r j ≡ true)) leads = rw led (sort_each (earlier n r) (pick_each n (is_lead r))) in
-        each_at all i 0 h
+    lead_told = rw at (each_at (sort_each (earlier n r) (pick_each n (is_lead r))) i 0 h)
+
+    pub lead_below : lead < n
+    lead_below = lead_told.0
+
+    pub group_some : (group : List ℕ) → group ≡ members n r lead → 0 < length group
+    group_some group is = rw is (group_of n r lead lead_told.0 lead_told.1).some
 
     -- the first index of a group is its lead
-    lead_first : get_or (members n r (get_or leads i 0)) 0 0 ≡ get_or leads i 0
-    lead_first = (group_of n r (get_or leads i 0) lead_told.0 lead_told.1).first
+    lead_first : get_or (members n r lead) 0 0 ≡ lead
+    lead_first = (group_of n r lead lead_told.0 lead_told.1).first
 
--- the part of an array that has a list
-pub listed_part : (n m : ℕ) (list out : List ℕ) → Listed n list out m → take (m - 0) out ≡ list
-listed_part n m list out l = let e : m - 0 ≡ m = omega arith in ap (λ (j : ℕ). take j out) e ∙ l.front
+-- the leads as the code has them, and the one that it has come to
+pub leads_long : (n : ℕ) (r : ℕ → RectToPlace) (leads : List Lead) → leads ≡ map (lead_with n r) (group_order n r) → length (group_order n r) ≡ length leads
+leads_long n r leads e = sym (ap length e ∙ length-map (group_order n r) (lead_with n r))
+
+pub lead_here :
+    (n : ℕ) (r : ℕ → RectToPlace) (leads : List Lead)
+    → leads ≡ map (lead_with n r) (group_order n r)
+    → (i : ℕ)
+    → i < length leads
+    → (d : Lead)
+    → (i < length (group_order n r)) × ((get_or leads i d).first ≡ get_or (group_order n r) i 0)
+lead_here n r leads e i h d =
+    let b : i < length (group_order n r) = omega (arith, leads_long n r leads e) in
+    (b, rw e (ap (λ (l : Lead). l.first) (get_or_default (map (lead_with n r) (group_order n r)) i d (lead_with n r 0) (omega (arith, leads_long n r leads e, ap length e)) ∙ get_or-map (lead_with n r) (group_order n r) i 0)))
+
+pub lead_small :
+    (n : ℕ) (r : ℕ → RectToPlace) (leads : List Lead)
+    → leads ≡ map (lead_with n r) (group_order n r)
+    → (i : ℕ)
+    → i < length leads
+    → (d : Lead)
+    → (get_or leads i d).first < n
+lead_small n r leads e i h d = let at = lead_here n r leads e i h d in lead_below n r i at.0 _ at.1
+
+-- a group, as the code has it
+module _ (n : ℕ) (r : ℕ → RectToPlace) (lead : ℕ) (group : List ℕ) (is : group ≡ members n r lead) where
+  entry_below : (k : ℕ) → k < length group → get_or group k 0 < n
+  entry_below = rw is (λ k h. each_at (each_map (λ j p. p.0) (pick_each n (same_group r lead))) k 0 h)
+
+  pub group_listed : (rects : List ℕ) → n ≤ rect_count rects → GroupOf rects group
+  group_listed rects h = record { listed = λ k b. omega (arith, entry_below k b) }
+
+  pub group_few : length group ≤ n
+  group_few = rw is (length_pick n (same_group r lead))
+
+  pub group_seats : (p : List ℕ) → HasPlacements p n → SeatsFor group p
+  group_seats p h = record { at = λ k b. omega (arith, entry_below k b) }
 
 -- the first i groups are packed
 pub record Running (r : ℕ → RectToPlace) (n : ℕ) (c₀ st₀ p₀ : List ℕ) (i : ℕ) (c st p : List ℕ) : Type 0 where
@@ -107,54 +148,50 @@ module _ (r : ℕ → RectToPlace) (n : ℕ) (c₀ st₀ p₀ : List ℕ) where
         so_far = λ seats e. (seats, e, refl);
       }
 
-  module _ (leads order : List ℕ) (led : leads ≡ group_order n r) (ord : order ≡ O) (i : ℕ) (c st p : List ℕ) (s : Running r n c₀ st₀ p₀ i c st p) where
+  module _ (order : List ℕ) (ord : order ≡ O) (i : ℕ) (c st p : List ℕ) (s : Running r n c₀ st₀ p₀ i c st p) where
     -- the chambers' indices are still those
     pub order_still : Each (λ k. k < chamber_count c) order
     order_still =
         let e : chamber_count c ≡ chamber_count c₀ = ap (λ (x : ℕ). x / 5) s.same.long in
         rw (ord, e) (trial_below c₀)
 
-    pub lead_below : i < length leads → get_or leads i 0 < n
-    lead_below h = (lead_told n r leads led i h).0
-
-    -- the next group, as it stands in an array
-    module _ (h : i < length leads) (group : List ℕ) (is : group ≡ members n r (get_or leads i 0)) where
+    -- the next group, by its lead
+    module _ (h : i < length (group_order n r)) (lead : ℕ) (at : lead ≡ get_or (group_order n r) i 0) (group : List ℕ) (is : group ≡ members n r lead) where
       next : drop i gs ≡ group ∷ drop (i + 1) gs
-      next = rw is (group_next n r leads led i h)
+      next = rw is (group_next n r i h lead at)
 
       total_next : total length (drop i gs) ≡ length group + total length (drop (i + 1) gs)
       unfolding total
       total_next = rw next
-
-      pub group_some : 0 < length group
-      group_some = rw is (group_of n r (get_or leads i 0) (lead_told n r leads led i h).0 (lead_told n r leads led i h).1).some
 
       pub group_ready : Ready c st (length group)
       group_ready = ready_part c st (length group) (total length (drop i gs)) s.ready (omega (arith, total_next))
 
       -- it was refused
       pub running_refused :
-          (f : Fit) (m : ℕ) (table c' st' : List ℕ) (a : Reply)
-          → f ≡ Nowhere
-          → a ≡ reply 7 (get_or leads i 0)
-          → Grouped f order (rects_at r group) m table c st c' st'
+          (c' st' : List ℕ) (a : Reply)
+          → a ≡ reply 7 lead
+          → NoneServes order (rects_at r group) (free_of c st) × (c' ≡ c) × (st' ≡ st)
           → GroupsPacked r n a c₀ st₀ p₀ c' st' p
-      running_refused f m table c' st' a told e d =
-          let u : Grouped Nowhere O (rects_at r group) m table c st c' st' = rw (told, ord) at d in
-          rw (u.1, u.2)
+      running_refused c' st' a e d =
+          let u : NoneServes O (rects_at r group) (free_of c st) = rw ord at d.0 in
+          rw (d.1, d.2)
           (record {
             same = s.same;
             shaped = s.ready.shaped;
             packed = λ seats₀ q.
                 let w = s.so_far seats₀ q in
-                rw (w.2, next, turn_refused O ids r group (drop (i + 1) gs) (state (free_of c st) w.0) u.0)
-                (record { answers = e ∙ ap (reply 7) (sym (ap (λ (g : List ℕ). get_or g 0 0) is ∙ lead_first n r leads led i h)); frees = refl; seats = w.1 });
+                rw (w.2, next, turn_refused O ids r group (drop (i + 1) gs) (state (free_of c st) w.0) u)
+                (record { answers = e ∙ ap (reply 7) (sym (ap (λ (g : List ℕ). get_or g 0 0) is ∙ lead_first n r i h lead at)); frees = refl; seats = w.1 });
           })
 
       -- it was served
-      module _ (f : Fit) (k m : ℕ) (table c' st' : List ℕ) (told : f ≡ In k m) (d : Grouped f order (rects_at r group) (length group) table c st c' st') where
-        found : Grouped (In k m) O (rects_at r group) (length group) table c st c' st'
-        found = rw (told, ord) at d
+      module _ (f : Fit) (table c' st' : List ℕ) (d : Grouped (Some f) order (rects_at r group) (length group) table c st c' st') where
+        abbrev k : ℕ
+        k = f.chamber
+
+        found : Grouped (Some f) O (rects_at r group) (length group) table c st c' st'
+        found = rw ord at d
 
         here : k < chamber_count c
         here = rw found.2 at (each_at (rw ord at order_still) found.0 0 found.1.within)
@@ -174,7 +211,7 @@ module _ (r : ℕ → RectToPlace) (n : ℕ) (c₀ st₀ p₀ : List ℕ) where
             let ls = locations_in table (length group) in
             let id : b.id ≡ ids k = ap (λ (x : TargetBin). x.id) read ∙ kept.same.ids k ∙ s.same.ids k in
             record {
-              most = omega (arith, groups_long n r leads led);
+              most = omega (arith, groups_long n r);
               same = same_through c₀ c c' s.same kept.same;
               ready = ready_next c st c' st' group r k (total length (drop (i + 1) gs)) ls u.3 (rw total_next at s.ready) here u.5 kept;
               long = lp ∙ s.long;
@@ -188,31 +225,17 @@ module _ (r : ℕ → RectToPlace) (n : ℕ) (c₀ st₀ p₀ : List ℕ) where
             }
 
     -- all groups are packed
-    pub running_all : (a : Reply) → length leads ≤ i → a ≡ reply 0 0 → GroupsPacked r n a c₀ st₀ p₀ c st p
+    pub running_all : (a : Reply) → length (group_order n r) ≤ i → a ≡ reply 0 0 → GroupsPacked r n a c₀ st₀ p₀ c st p
     running_all a h e =
         record {
           same = s.same;
           shaped = s.ready.shaped;
           packed = λ seats₀ q.
               let w = s.so_far seats₀ q in
-              let none_left : length gs ≤ i = omega (arith, groups_long n r leads led) in
+              let none_left : length gs ≤ i = omega (arith, groups_long n r) in
               rw (w.2, drop_of_length-le gs none_left, no_turn O ids r (state (free_of c st) w.0))
               (record { answers = e; frees = refl; seats = w.1 });
         }
-
--- what a group lists, as the code has it
-module _ (group out : List ℕ) (n m : ℕ) (l : Listed n group out m) where
-  entry_below : (k : ℕ) → k < length group → get_or group k 0 < n
-  entry_below k h = rw (← l.front) (rw (get_or-take m out k 0 (omega (arith, l.long))) (l.below k (omega (arith, l.long))))
-
-  pub group_listed : (rects part : List ℕ) → part ≡ group → n ≤ rect_count rects → GroupOf rects part
-  group_listed rects part e h = rw e (record { listed = λ k b. omega (arith, entry_below k b) })
-
-  pub group_few : (part : List ℕ) → part ≡ group → length part ≤ n
-  group_few part e = omega (arith, ap length e, l.long, l.few)
-
-  pub group_seats : (part p : List ℕ) → part ≡ group → HasPlacements p n → SeatsFor part p
-  group_seats part p e h = rw e (record { at = λ k b. omega (arith, entry_below k b) })
 
 -- ---- the tables' words once the packing has ended
 

@@ -1,12 +1,12 @@
 -- Laws of one group: the first chamber where all fit, and the tables once that chamber keeps the copy.
-use Prim.Native.Nat.{ℕ, ◌+◌, ◌*◌, ◌-◌, ◌/◌, ◌≤◌, ◌<◌}
+use Prim.Native.Nat.{ℕ, ◌+◌, ◌*◌, ◌/◌, ◌≤◌, ◌<◌}
 use mathlib.Core.Path.{◌≡◌, refl, sym, ap, ◌∙◌}
 use mathlib.Core.Logic.{⊎_elim}
 use mathlib.Core.List.{List, [], ◌∷◌}
 use mathlib.Core.Bool.{Bool, false}
 use native.Mathlib.Decide.{ℕ_discrete}
 use native.Mathlib.Omega.{arith}
-use lib.ListN.{length, get_or, take, drop, set, length-set}
+use lib.ListN.{length, get_or, set, length-set}
 use Rattle.lists.specs.Sort.{Each}
 use Rattle.lists.specs.Tab.{put}
 use Rattle.lists.proofs.Lowests.{None}
@@ -22,7 +22,7 @@ use Rattle.target_bin.specs.declared.chamber.TargetBin.{TargetBin}
 use Rattle.target_bin.specs.Chambers.{chamber_at, chamber_count}
 use Rattle.target_bin.specs.Leaning.{Shaped}
 use Rattle.target_bin.specs.Store.{free_at, free_of}
-use Rattle.target_bin.proofs.Parts.{length-part_at, lent_part, part_at-put_same, only_in, free_set}
+use Rattle.target_bin.proofs.Parts.{part_at-put_same, only_in, free_set}
 use Rattle.target_bin.proofs.Tables.{chamber_at-set_same, chamber_at-set_other}
 use Rattle.grouped_rects_to_place.specs.declared.rect_to_place.RectToPlace.{RectToPlace}
 use Rattle.packing_rules.specs.Rules.{place_one, whole, is_whole}
@@ -31,21 +31,14 @@ use Rattle.packing_rules.specs.Promises.{NoneServes}
 use Rattle.packing_rules.proofs.Left.{placings_free, inside_reachable, inside_passes}
 use Rattle.packing_rules.proofs.Placings.{group_placings, stops_first}
 use Rattle.placing.proofs.Placed.{not_placed}
+use Rattle.std.proofs.Common.{Some}
 use Rattle.packing_rules.proofs.Room.{group_most, most_part, most_least}
-use Rattle.placing.specs.declared.step.Step.{Step}
-use Rattle.placing.specs.declared.step.Step.TheVariants.{Whole, Stops}
 use Rattle.placing.specs.Leaning.{is_somewhere, Ready}
-use Rattle.placing.specs.Step.{locations_in, trial_of}
+use Rattle.placing.specs.Step.{locations_in}
 use Rattle.rectangle_pack.specs.declared.groups.Fit.{Fit}
-use Rattle.rectangle_pack.specs.declared.groups.Fit.TheVariants.{In, Nowhere}
-use Rattle.rectangle_pack.specs.Leaning.{fit_from, FitHere, FirstFit, KeptIn, Grouped}
+use Rattle.rectangle_pack.specs.Leaning.{FitHere, FirstFit, KeptIn, Grouped}
 
 -- ---- one chamber
-
-module _ (group : List RectToInsert) (frees : List (List BinSection)) (m k : ℕ) (copy table : List ℕ) where
-  pub fit_step : (f : Fit) (s : Step) → f ≡ fit_from k s → trial_of s m copy table ≡ trial_in group frees k → FitHere f k group frees m copy table
-  fit_step f (Whole n) e d = rw e (refl, sym d)
-  fit_step f (Stops i n) e d = rw e (ap is_whole (sym d))
 
 -- the first of the group fits no section: so it stops the trial
 pub first_stops :
@@ -64,30 +57,17 @@ first_stops r (i ∷ is) frees k b some e none =
 module _ (order : List ℕ) (group : List RectToInsert) (frees : List (List BinSection)) (t : ℕ)
     (passed : None t (λ i. is_whole (trial_in group frees (get_or order i 0)))) where
   pub serves_here :
-      (f : Fit) (m : ℕ) (copy table : List ℕ) (k n : ℕ)
+      (f : Fit) (m : ℕ) (copy table : List ℕ)
       → t < length order
-      → FitHere f (get_or order t 0) group frees m copy table
-      → f ≡ In k n
-      → FirstFit f order group frees m copy table
-  serves_here (In j n) m copy table k n' h d told =
+      → FitHere (Some f) (get_or order t 0) group frees m copy table
+      → FirstFit (Some f) order group frees m copy table
+  serves_here f m copy table h d =
       (t, record { within = h; earlier_stop = passed.at; all_fit = ap is_whole d.1 }, d.0, rw d.0 at d.1)
-  serves_here Nowhere m copy table k n h d told = let z : ◌≡◌ {A = ℕ} 0 1 = cc in absurd (omega arith)
 
   pub serves_nowhere : length order ≤ t → NoneServes order group frees
   serves_nowhere h = record { at = λ u l. passed.at u (omega arith) }
 
-pub not_here :
-    (group : List RectToInsert) (frees : List (List BinSection)) (m k : ℕ) (copy table : List ℕ) (f : Fit)
-    → FitHere f k group frees m copy table
-    → f ≡ Nowhere
-    → is_whole (trial_in group frees k) ≡ false
-not_here group frees m k copy table (In j n) d told = let z : ◌≡◌ {A = ℕ} 0 1 = cc in absurd (omega arith)
-not_here group frees m k copy table Nowhere d told = d
-
 -- ---- the copy is kept
-
-pub lent_long : (c st : List ℕ) (k : ℕ) → Shaped c st → k < chamber_count c → length (take (k * 768 + 768 - k * 768) (drop (k * 768) st)) ≡ 768
-lent_long c st k shaped here = ap length (lent_part st k) ∙ length-part_at st k (omega (arith, shaped.long))
 
 module _ (c st c' st' part copy : List ℕ) (k n : ℕ)
     (shaped : Shaped c st)
@@ -146,34 +126,27 @@ module _ (c st c' st' part copy : List ℕ) (k n : ℕ)
             (λ i ne. ap (λ (b : TargetBin). b.count) (at_other i ne));
       }
 
--- ---- one group: no chamber serves it, or the first that does keeps the copy
+-- ---- one group: the first chamber that serves it keeps the copy
 
-module _ (c st order group : List ℕ) (r : ℕ → RectToPlace) (m : ℕ) (copy table : List ℕ) (f : Fit) (first : FirstFit f order (rects_at r group) (free_of c st) m copy table) where
-  pub grouped_none : f ≡ Nowhere → Grouped f order (rects_at r group) m table c st c st
-  grouped_none e = rw e ((rw e at first), refl, refl)
+module _ (c st order group : List ℕ) (r : ℕ → RectToPlace) (m : ℕ) (copy table : List ℕ) (f : Fit) (found : FirstFit (Some f) order (rects_at r group) (free_of c st) m copy table) where
+  pub fit_below : (b : ℕ) → Each (λ i. i < b) order → f.chamber < b
+  fit_below b low = rw found.2 at (each_at low found.0 0 found.1.within)
 
-  module _ (k n : ℕ) (told : f ≡ In k n) where
-    found : FirstFit (In k n) order (rects_at r group) (free_of c st) m copy table
-    found = rw told at first
+  pub fit_few : (b : ℕ) → Ready c st b → length group ≡ b → Each (λ i. i < chamber_count c) order → f.count ≤ 128
+  unfolding trial_in
+  fit_few b ready many low =
+      let most : most_sections (length (get_or (free_of c st) f.chamber [])) (length group + 0) ≤ 128 =
+      let e : length group + 0 ≡ b = omega arith in rw e (ready.room f.chamber (fit_below (chamber_count c) low)) in
+      omega (
+        arith,
+        length-sections copy f.count,
+        most_least (length (sections copy f.count)) 0,
+        group_most r (get_or (free_of c st) f.chamber []) group 0 (locations_in table m) (sections copy f.count) found.3,
+        most,
+      )
 
-    pub fit_below : (b : ℕ) → Each (λ i. i < b) order → k < b
-    fit_below b low = rw found.2 at (each_at low found.0 0 found.1.within)
-
-    pub fit_few : (b : ℕ) → Ready c st b → length group ≡ b → Each (λ i. i < chamber_count c) order → n ≤ 128
-    unfolding trial_in
-    fit_few b ready many low =
-        let most : most_sections (length (get_or (free_of c st) k [])) (length group + 0) ≤ 128 =
-        let e : length group + 0 ≡ b = omega arith in rw e (ready.room k (fit_below (chamber_count c) low)) in
-        omega (
-          arith,
-          length-sections copy n,
-          most_least (length (sections copy n)) 0,
-          group_most r (get_or (free_of c st) k []) group 0 (locations_in table m) (sections copy n) found.3,
-          most,
-        )
-
-    pub grouped_served : (c' st' : List ℕ) → KeptIn k (sections copy n) c st c' st' → Grouped (In k n) order (rects_at r group) m table c st c' st'
-    grouped_served c' st' kept = (found.0, found.1, found.2, sections copy n, length-sections copy n, found.3, kept)
+  pub grouped_served : (c' st' : List ℕ) → KeptIn f.chamber (sections copy f.count) c st c' st' → Grouped (Some f) order (rects_at r group) m table c st c' st'
+  grouped_served c' st' kept = (found.0, found.1, found.2, sections copy f.count, length-sections copy f.count, found.3, kept)
 
 -- ---- what was ready for all is ready for the others, once a group stands in its chamber
 

@@ -10,7 +10,7 @@ use Rattle.words.specs.Words.{joined}
 use Rattle.words.proofs.Records.{length-joined, joined-put}
 use Rattle.placement.specs.declared.Placement.{Placement}
 use Rattle.placement.specs.Placements.{no_placement, placement_width, placement_at, placement_words, placement_table}
-use Rattle.placement.proofs.Layouts.{placement_layout}
+use Rattle.placement.specs.Layouts.{placement_layout}
 use Rattle.packing_rules.specs.Seats.{Seat, unplaced}
 use Rattle.rectangle_pack.specs.Records.{placement_of, placements_of}
 

@@ -1,8 +1,9 @@
 -- What functions below the jobs lean on and leave. No job's contract cites it, and a reader of the rules needs none of it.
-use Rattle.std.specs.Prelude.{ℕ, ◌*◌, ◌≤◌, ◌<◌, ◌≡◌, List, false, length, get_or, set}
+use Rattle.std.specs.Prelude.{ℕ, ◌*◌, ◌≤◌, ◌<◌, ◌≡◌, List, false, length, get_or, set, Option, Some, None}
 use Rattle.bin_section.specs.declared.rect_to_insert.RectToInsert.{RectToInsert}
 use Rattle.bin_section.specs.declared.section.BinSection.{BinSection}
 use Rattle.bin_section.specs.Leaning.{Small}
+use Rattle.bin_section.specs.Sides.{volume_of}
 use Rattle.sections.specs.Sections.{sections}
 use Rattle.sections.specs.Leaning.{ZeroPast}
 use Rattle.target_bin.specs.Chambers.{chamber_at, chamber_count}
@@ -20,22 +21,19 @@ use Rattle.packing_rules.specs.Packing.{trial_in, state, Ended, pack_groups}
 use Rattle.packing_rules.specs.Promises.{Serves, NoneServes}
 use Rattle.packing_rules.specs.Order.{trial_order}
 use Rattle.packing_rules.specs.Seats.{Seat, seated}
-use Rattle.placing.specs.declared.step.Step.{Step}
-use Rattle.placing.specs.declared.step.Step.TheVariants.{Whole, Stops}
 use Rattle.placing.specs.Leaning.{GroupOf, Ready}
 use Rattle.placing.specs.Step.{locations_in}
 use Rattle.rectangle_pack.specs.declared.groups.Fit.{Fit}
-use Rattle.rectangle_pack.specs.declared.groups.Fit.TheVariants.{In, Nowhere}
+use Rattle.rectangle_pack.specs.declared.order.Turn.{Turn}
 use Rattle.rectangle_pack.specs.Records.{placements_of}
 
 -- no side of a chamber is above 65,535
 pub record SmallChambers (chambers : List ℕ) : Type 0 where
   pub at : (i : ℕ) → i < chamber_count chambers → Small (chamber_at chambers i).whd
 
--- the first count entries of order are below n
-pub record Indices (n count : ℕ) (order : List ℕ) : Type 0 where
-  pub room : count ≤ length order
-  pub below : (k : ℕ) → k < count → get_or order k 0 < n
+-- what the chamber at i is sorted by
+abbrev pub turn_of : List ℕ → ℕ → Turn
+turn_of chambers i = record { volume = volume_of (chamber_at chambers i).whd; id = (chamber_at chambers i).id; index = i }
 
 -- ---- one group
 
@@ -46,21 +44,19 @@ pub record Wanted (rects group copy table : List ℕ) : Type 0 where
   pub copy_long : length copy ≡ 768
   pub table_long : length group * 6 ≤ length table
 
--- the chamber at k takes the group, if the step there is whole
-abbrev pub fit_from : ℕ → Step → Fit
-fit_from k (Whole n) = In k n
-fit_from k (Stops i n) = Nowhere
-
 -- the chamber at k takes all m of the group, with the copy and the locations that its step left; or all do not fit there
-abbrev pub FitHere : Fit → ℕ → List RectToInsert → List (List BinSection) → ℕ → List ℕ → List ℕ → Type 0
-FitHere (In j n) k group frees m copy table = (k ≡ j) × (trial_in group frees k ≡ whole (locations_in table m) (sections copy n))
-FitHere Nowhere k group frees m copy table = is_whole (trial_in group frees k) ≡ false
+abbrev pub FitHere : Option Fit → ℕ → List RectToInsert → List (List BinSection) → ℕ → List ℕ → List ℕ → Type 0
+FitHere (Some fit) k group frees m copy table = (k ≡ fit.chamber) × (trial_in group frees k ≡ whole (locations_in table m) (sections copy fit.count))
+FitHere None k group frees m copy table = is_whole (trial_in group frees k) ≡ false
 
 -- the first chamber where all m of the group fit, with the copy and the locations that its step left; or none serves
-abbrev pub FirstFit : Fit → List ℕ → List RectToInsert → List (List BinSection) → ℕ → List ℕ → List ℕ → Type 0
-FirstFit (In k n) order group frees m copy table =
-    (t : ℕ) × Serves order group frees t × (get_or order t 0 ≡ k) × (trial_in group frees k ≡ whole (locations_in table m) (sections copy n))
-FirstFit Nowhere order group frees m copy table = NoneServes order group frees
+abbrev pub FirstFit : Option Fit → List ℕ → List RectToInsert → List (List BinSection) → ℕ → List ℕ → List ℕ → Type 0
+FirstFit (Some fit) order group frees m copy table =
+    (t : ℕ)
+    × Serves order group frees t
+    × (get_or order t 0 ≡ fit.chamber)
+    × (trial_in group frees fit.chamber ≡ whole (locations_in table m) (sections copy fit.count))
+FirstFit None order group frees m copy table = NoneServes order group frees
 
 -- the chambers are the same, but for their counts
 pub record SameShape (c c' : List ℕ) : Type 0 where
@@ -75,16 +71,16 @@ pub record KeptIn (k : ℕ) (free : List BinSection) (c st c' st' : List ℕ) : 
   pub frees : free_of c' st' ≡ set (free_of c st) k free
 
 -- one group served, its locations in the table; or no word of chambers and store changed
-abbrev pub Grouped : Fit → List ℕ → List RectToInsert → ℕ → List ℕ → List ℕ → List ℕ → List ℕ → List ℕ → Type 0
-Grouped (In k n) order group m table c st c' st' =
+abbrev pub Grouped : Option Fit → List ℕ → List RectToInsert → ℕ → List ℕ → List ℕ → List ℕ → List ℕ → List ℕ → Type 0
+Grouped (Some fit) order group m table c st c' st' =
     (t : ℕ)
     × Serves order group (free_of c st) t
-    × (get_or order t 0 ≡ k)
+    × (get_or order t 0 ≡ fit.chamber)
     × (free : List BinSection)
-    × (length free ≡ n)
-    × (trial_in group (free_of c st) k ≡ whole (locations_in table m) free)
-    × KeptIn k free c st c' st'
-Grouped Nowhere order group m table c st c' st' = NoneServes order group (free_of c st) × (c' ≡ c) × (st' ≡ st)
+    × (length free ≡ fit.count)
+    × (trial_in group (free_of c st) fit.chamber ≡ whole (locations_in table m) free)
+    × KeptIn fit.chamber free c st c' st'
+Grouped None order group m table c st c' st' = NoneServes order group (free_of c st) × (c' ≡ c) × (st' ≡ st)
 
 -- the placement table has a record for each of the group
 pub record SeatsFor (group p : List ℕ) : Type 0 where

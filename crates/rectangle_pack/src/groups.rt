@@ -8,29 +8,17 @@ ghost use Rattle.target_bin.specs.Store.{free_of};
 ghost use Rattle.grouped_rects_to_place.specs.Rect.{rect_at};
 ghost use Rattle.packing_rules.specs.Packing.{rects_at};
 ghost use Rattle.placing.specs.Leaning.{Ready};
-ghost use Rattle.rectangle_pack.specs.Leaning.{fit_from, Wanted, FitHere, FirstFit, KeptIn, Grouped};
+ghost use Rattle.rectangle_pack.specs.Leaning.{Wanted, FitHere, FirstFit, KeptIn, Grouped};
 
-use placing::{Step, has_place, place_in};
+use placing::{has_place, place_in};
 use sections::copy_sections;
 use target_bin::TargetBin;
 
-// Where a group goes: into the chamber at this index, which then has so many free sections; or into none.
+// Where a group goes: into the chamber at this index, which then has so many free sections.
 #[derive(Clone, Copy)]
-pub enum Fit {
-    In(usize, usize),
-    Nowhere,
-}
-
-impl Fit {
-    // The chamber at k takes the group, if the step there is whole.
-    fn new(k: usize, step: Step) -> Fit
-        ensures { result ≡ fit_from k step }
-    {
-        match step {
-            Step::Whole(count) => Fit::In(k, count),
-            Step::Stops(_, _) => Fit::Nowhere,
-        }
-    }
+pub struct Fit {
+    pub chamber: usize,
+    pub count: usize,
 }
 
 // The group in the chamber at k. A chamber that has no place for the first of the group is not copied.
@@ -42,7 +30,7 @@ fn fit_in(
     group: &[usize],
     copy: &mut [u32],
     locations: &mut [u32],
-) -> Fit
+) -> Option<Fit>
     requires { Ready chambers.now store.now (length group.now)
         × (k < chamber_count chambers.now)
         × Wanted rects.now group.now copy.old locations.old }
@@ -50,12 +38,10 @@ fn fit_in(
         (length group.now) copy.new locations.new }
 {
     if !has_place(chambers, store, k, rects, group[0]) {
-        return Fit::Nowhere;
+        return None;
     }
-    Fit::new(
-        k,
-        place_in(chambers, store, k, rects, group, copy, locations),
-    )
+    let count = place_in(chambers, store, k, rects, group, copy, locations).ok()?;
+    Some(Fit { chamber: k, count })
 }
 
 // "The first chamber where all fit", in the order of the chambers. In each the copy is made anew.
@@ -67,21 +53,19 @@ fn first_fitting(
     group: &[usize],
     copy: &mut [u32],
     locations: &mut [u32],
-) -> Fit
+) -> Option<Fit>
     requires { Ready chambers.now store.now (length group.now)
         × Each (λ k. k < chamber_count chambers.now) order.now
         × Wanted rects.now group.now copy.old locations.old }
     ensures { FirstFit result order.now (rects_at (rect_at rects.now) group.now) (free_of chambers.now store.now)
         (length group.now) copy.new locations.new }
 {
-    let n = order.len();
-    for t in 0..n {
-        let fit = fit_in(chambers, store, order[t], rects, group, copy, locations);
-        let Fit::Nowhere = fit else {
-            return fit;
-        };
+    for &k in order {
+        if let Some(fit) = fit_in(chambers, store, k, rects, group, copy, locations) {
+            return Some(fit);
+        }
     }
-    Fit::Nowhere
+    None
 }
 
 // The copy is kept: its first n sections are those of the chamber at k from now on.
@@ -89,9 +73,7 @@ fn keep(chambers: &mut [u32], store: &mut [u32], k: usize, copy: &[u32], n: usiz
     requires { Shaped chambers.old store.old × (k < chamber_count chambers.old) × (length copy.now ≡ 768) × (n ≤ 128) }
     ensures { KeptIn k (sections copy.now n) chambers.old store.old chambers.new store.new }
 {
-    let start = k * TargetBin::STORE;
-    let end = start + TargetBin::STORE;
-    copy_sections(copy, n, &mut store[start..end]);
+    copy_sections(copy, n, &mut store[TargetBin::part(k)]);
     TargetBin::write_count(chambers, k, n as u32);
 }
 
@@ -104,17 +86,14 @@ pub fn pack_group(
     group: &[usize],
     copy: &mut [u32],
     locations: &mut [u32],
-) -> Fit
+) -> Option<Fit>
     requires { Ready chambers.old store.old (length group.now)
         × Each (λ k. k < chamber_count chambers.old) order.now
         × Wanted rects.now group.now copy.old locations.old }
     ensures { Grouped result order.now (rects_at (rect_at rects.now) group.now) (length group.now) locations.new
         chambers.old store.old chambers.new store.new }
 {
-    let fit = first_fitting(chambers, store, order, rects, group, copy, locations);
-    let Fit::In(k, count) = fit else {
-        return fit;
-    };
-    keep(chambers, store, k, copy, count);
-    fit
+    let fit = first_fitting(chambers, store, order, rects, group, copy, locations)?;
+    keep(chambers, store, fit.chamber, copy, fit.count);
+    Some(fit)
 }

@@ -1,10 +1,11 @@
 // Pack, and its packing of the groups in their order: the Rust's pack_rects.
-ghost use Rattle.std.specs.Prelude.{◌≡◌, ◌<◌};
+ghost use Rattle.std.specs.Prelude.{◌≡◌, ◌<◌, map};
+ghost use Rattle.replies.specs.Replies.{job_reply};
 ghost use Rattle.sections.specs.Leaning.{Cleared};
 ghost use Rattle.target_bin.specs.Chambers.{chamber_at, chamber_count};
 ghost use Rattle.target_bin.specs.Leaning.{Shaped, ChangedIn};
 ghost use Rattle.grouped_rects_to_place.specs.Rect.{rect_at, rect_count};
-ghost use Rattle.grouped_rects_to_place.specs.Leaning.{GoodRects};
+ghost use Rattle.grouped_rects_to_place.specs.Leaning.{GoodRects, lead_with};
 ghost use Rattle.placement.specs.Leaning.{HasPlacements};
 ghost use Rattle.grouped_rects_to_place.specs.Groups.{group_order};
 ghost use Rattle.packing_rules.specs.Order.{trial_order};
@@ -14,14 +15,16 @@ ghost use Rattle.placing.specs.Leaning.{Ready};
 ghost use Rattle.rectangle_pack.specs.Leaning.{Tidied, GroupsPacked, Passed};
 
 use crate::checks::check_pack;
-use crate::groups::{Fit, pack_group};
+use crate::groups::pack_group;
 use crate::order::sort_chambers;
 use crate::placements::{clear_placements, seat_group};
+use arrayvec::ArrayVec;
 use bin_section::BinSection;
-use grouped_rects_to_place::{RectToPlace, members_of, sort_groups};
-use replies::Reply;
+use grouped_rects_to_place::{Lead, RectToPlace, members_of, sort_groups};
+use replies::Refusal;
 use sections::clear_past;
 use target_bin::TargetBin;
+use words::Record;
 
 // The words of the locations of a group, which has at most all rectangles of the call.
 const LOCATION_WORDS: usize = RectToPlace::MOST * BinSection::WORDS;
@@ -32,17 +35,14 @@ fn clear_tail(chambers: &[u32], store: &mut [u32], k: usize)
     ensures { ChangedIn (Cleared (chamber_at chambers.now k).count) k store.old store.new }
 {
     let bin = TargetBin::read(chambers, k);
-    let start = k * TargetBin::STORE;
-    let end = start + TargetBin::STORE;
-    clear_past(&mut store[start..end], bin.count as usize);
+    clear_past(&mut store[TargetBin::part(k)], bin.count as usize);
 }
 
 fn clear_tails(chambers: &[u32], store: &mut [u32])
     requires { Shaped chambers.now store.old }
     ensures { Tidied chambers.now store.old store.new }
 {
-    let n = chambers.len() / TargetBin::WORDS;
-    for k in 0..n {
+    for k in 0..TargetBin::count_in(chambers) {
         clear_tail(chambers, store, k);
     }
 }
@@ -54,40 +54,38 @@ fn pack_groups(
     rects: &[u32],
     placements: &mut [u32],
     order: &[usize],
-    leads: &[usize],
-) -> Reply
+    leads: &[Lead],
+) -> Result<(), Refusal>
     requires { Ready chambers.old store.old (rect_count rects.now)
         × GoodRects rects.now (rect_count rects.now)
         × HasPlacements placements.old (rect_count rects.now)
         × (order.now ≡ trial_order chambers.old)
-        × (leads.now ≡ group_order (rect_count rects.now) (rect_at rects.now)) }
-    ensures { GroupsPacked (rect_at rects.now) (rect_count rects.now) result chambers.old store.old placements.old
+        × (leads.now ≡ map (lead_with (rect_count rects.now) (rect_at rects.now)) (group_order (rect_count rects.now) (rect_at rects.now))) }
+    ensures { GroupsPacked (rect_at rects.now) (rect_count rects.now) (job_reply result) chambers.old store.old placements.old
         chambers.new store.new placements.new }
 {
     let n = rects.len() / RectToPlace::WORDS;
-    let mut group = [0usize; RectToPlace::MOST];
+    let mut group = ArrayVec::new();
     let mut copy = [0u32; TargetBin::STORE];
     let mut locations = [0u32; LOCATION_WORDS];
-    let groups = leads.len();
-    for g in 0..groups {
-        let lead = leads[g];
-        let m = members_of(rects, n, lead, &mut group);
-        let fit = pack_group(
+    for lead in leads {
+        members_of(rects, n, lead.first, &mut group);
+        let members = group.as_slice();
+        let Some(fit) = pack_group(
             chambers,
             store,
             order,
             rects,
-            &group[0..m],
+            members,
             &mut copy,
             &mut locations,
-        );
-        let Fit::In(k, _) = fit else {
-            return Reply::new(Reply::NOT_ENOUGH_BIN_SPACE, lead as u32);
+        ) else {
+            return Err(Refusal::NotEnoughBinSpace(lead.first as u32));
         };
-        let bin = TargetBin::read(chambers, k);
-        seat_group(placements, bin.id, &group[0..m], &locations);
+        let bin = TargetBin::read(chambers, fit.chamber);
+        seat_group(placements, bin.id, members, &locations);
     }
-    Reply::new(Reply::DONE, 0)
+    Ok(())
 }
 
 // The packing itself, and then zeros past each count.
@@ -96,36 +94,28 @@ fn pack_checked(
     store: &mut [u32],
     rects: &[u32],
     placements: &mut [u32],
-) -> Reply
+) -> Result<(), Refusal>
     requires { Passed chambers.old store.old rects.now placements.old }
-    ensures { pack_outcome result chambers.new store.new placements.new ≡ written chambers.old (packing chambers.old store.old rects.now) }
+    ensures { pack_outcome (job_reply result) chambers.new store.new placements.new ≡ written chambers.old (packing chambers.old store.old rects.now) }
 {
     clear_placements(placements);
     let n = rects.len() / RectToPlace::WORDS;
-    let mut order = [0usize; TargetBin::MOST];
-    let bins = sort_chambers(chambers, &mut order);
-    let mut leads = [0usize; RectToPlace::MOST];
-    let mut sums = [0u64; RectToPlace::MOST];
-    let groups = sort_groups(rects, n, &mut leads, &mut sums);
-    let answer = pack_groups(
-        chambers,
-        store,
-        rects,
-        placements,
-        &order[0..bins],
-        &leads[0..groups],
-    );
+    let order = sort_chambers(chambers);
+    let leads = sort_groups(rects, n);
+    let answer = pack_groups(chambers, store, rects, placements, &order, &leads);
     clear_tails(chambers, store);
     answer
 }
 
 // Pack: checks 1 to 6, then the groups.
-pub fn pack(chambers: &mut [u32], store: &mut [u32], rects: &[u32], placements: &mut [u32]) -> Reply
-    ensures { pack_outcome result chambers.new store.new placements.new ≡ pack_of chambers.old store.old rects.now placements.old }
+pub fn pack(
+    chambers: &mut [u32],
+    store: &mut [u32],
+    rects: &[u32],
+    placements: &mut [u32],
+) -> Result<(), Refusal>
+    ensures { pack_outcome (job_reply result) chambers.new store.new placements.new ≡ pack_of chambers.old store.old rects.now placements.old }
 {
-    let checked = check_pack(chambers, store, rects, placements);
-    if checked.number != Reply::DONE {
-        return checked;
-    }
+    check_pack(chambers, store, rects, placements)?;
     pack_checked(chambers, store, rects, placements)
 }

@@ -10,7 +10,7 @@ ghost use Rattle.rectangle_pack.specs.Leaning.{SeatsFor, Seated};
 
 use bin_section::BinSection;
 use placement::Placement;
-use words::fill;
+use words::Record;
 
 // Writes the record of the rectangle at index i, which stands there in the chamber of this id.
 fn write_placement(placements: &mut [u32], i: usize, id: u32, stands: BinSection)
@@ -32,9 +32,8 @@ pub fn seat_group(placements: &mut [u32], id: u32, group: &[usize], locations: &
     requires { SeatsFor group.now placements.old × (length group.now * 6 ≤ length locations.now) }
     ensures { Seated id group.now locations.now placements.old placements.new }
 {
-    let m = group.len();
-    for i in 0..m {
-        write_placement(placements, group[i], id, BinSection::read(locations, i));
+    for (i, &rect) in group.iter().enumerate() {
+        write_placement(placements, rect, id, BinSection::read(locations, i));
     }
 }
 
@@ -42,6 +41,5 @@ pub fn seat_group(placements: &mut [u32], id: u32, group: &[usize], locations: &
 pub fn clear_placements(placements: &mut [u32])
     ensures { placements.new ≡ replicate (length placements.old) 0 }
 {
-    let n = placements.len();
-    fill(placements, 0, n, 0);
+    placements.fill(0);
 }

@@ -1,58 +1,25 @@
 // A try: section and rectangle in, reply, detail, location and the three sections out.
-ghost use Rattle.std.specs.Prelude.{◌≤◌, length};
+ghost use Rattle.std.specs.Prelude.{◌≡◌, ◌+◌, length, OnSome};
 
+use crate::Answer;
+use crate::tables::put_reply;
 use bin_section::{BinSection, RectToInsert};
-use replies::Reply;
-use try_place::{PackedLocation, Tried, try_placement};
+use try_place::{Tried, try_placement};
+use words::Record;
 
-// Kind, section, sides of the rectangle.
-pub const JOB_WORDS: usize = 10;
-// Its own length, reply, detail, location, three sections.
-pub const ANSWER_WORDS: usize = 24;
+// The words of a job: section, sides of the rectangle.
+const WORDS: usize = 9;
 
-// The words of the answer with its length; 0 where the job is none.
-pub fn answer(job: &[u32], answer: &mut [u32]) -> usize
-    requires { 24 ≤ length answer.old }
-    ensures { result ≤ 24 }
+pub fn answer(job: &[u32], answer: &mut Answer) -> Option<()>
+    ensures { OnSome result (length answer.new.items ≡ length answer.old.items + 23) }
 {
-    if job.len() != JOB_WORDS {
-        return 0;
+    if job.len() != WORDS {
+        return None;
     }
-    let tried = tried(job);
-    let placement = tried.answer;
-    write_head(answer, placement.reply(), placement.location());
-    let sections = tried.sections;
-    write_sections(answer, sections);
-    ANSWER_WORDS
-}
-
-fn tried(job: &[u32]) -> Tried
-    requires { 10 ≤ length job.now }
-{
-    let section = BinSection::read(&job[1..7], 0);
-    let rectangle = RectToInsert::new(job[7], job[8], job[9]);
-    try_placement(section, rectangle)
-}
-
-fn write_head(answer: &mut [u32], reply: Reply, location: PackedLocation)
-    requires { 24 ≤ length answer.old }
-{
-    answer[0] = 23;
-    answer[1] = reply.number;
-    answer[2] = reply.detail;
-    answer[3] = location.x;
-    answer[4] = location.y;
-    answer[5] = location.z;
-}
-
-// The head is as long as a section.
-fn write_sections(answer: &mut [u32], sections: [BinSection; 3])
-    requires { 24 ≤ length answer.old }
-{
-    let right = sections[0];
-    let above = sections[1];
-    let behind = sections[2];
-    right.write(answer, 1);
-    above.write(answer, 2);
-    behind.write(answer, 3);
+    let section = BinSection::read(job, 0);
+    let rectangle = RectToInsert::new(job[6], job[7], job[8]);
+    let tried = try_placement(section, rectangle);
+    put_reply(answer, tried.reply())?;
+    let words: [u32; Tried::WORDS] = tried.into();
+    answer.try_extend_from_slice(&words).ok()
 }

@@ -6,9 +6,12 @@ use mathlib.Core.Bool.{Bool, true, false, not, ◌&&◌, cond}
 use native.Mathlib.Omega.{arith}
 use borrow.Author.Tests.{lt-ltb, le-ltb, ltb-true, ltb-false, eq-eqb, ne_eqb}
 use lib.Dec.{ltb}
-use Rattle.lists.specs.Lowest.{lowest}
+use Rattle.std.specs.Prelude.{Option, Some}
+use Rattle.std.specs.Prelude.{None as Nothing}
+use Rattle.lists.specs.Lowest.{lowest, lowest_index}
 use Rattle.lists.proofs.Flags.{cond_yes, cond_no, and_first, and_second}
 use Rattle.lists.proofs.Lowests.{None, none_of_lowest, lowest_none}
+use Rattle.lists.proofs.LowestIndex.{index_some, index_none}
 use Rattle.replies.specs.declared.reply.Reply.{Reply}
 use Rattle.replies.specs.Replies.{Check, reply, in_order}
 
@@ -49,10 +52,30 @@ no_fault n f e = none_of_lowest n f (ltb-false (lowest n f) n e)
 pub none_passes : (n : ℕ) (f : ℕ → Bool) → None n f → ltb (lowest n f) n ≡ false
 none_passes n f p = le-ltb (lowest n f) n (omega (arith, lowest_none n f p))
 
+-- a check of each entry, by the answer of the search for the lowest faulty one
+module _ (n : ℕ) (f : ℕ → Bool) (r : Option ℕ) (e : r ≡ lowest_index n f) where
+  pub index_fires : (i : ℕ) → r ≡ Some i → ltb (lowest n f) n ≡ true
+  index_fires i p = let q = index_some n i f (sym e ∙ p) in lt-ltb (lowest n f) n (omega arith)
+
+  pub index_at : (i : ℕ) → r ≡ Some i → i ≡ lowest n f
+  index_at i p = sym (index_some n i f (sym e ∙ p)).0
+
+  pub index_below : (i : ℕ) → r ≡ Some i → i < n
+  index_below i p = (index_some n i f (sym e ∙ p)).1
+
+  pub index_passes : r ≡ Nothing → ltb (lowest n f) n ≡ false
+  index_passes p = le-ltb (lowest n f) n (omega (arith, index_none n f (sym e ∙ p)))
+
+  pub index_none_at : r ≡ Nothing → None n f
+  index_none_at p = none_of_lowest n f (omega (arith, index_none n f (sym e ∙ p)))
+
+pub same_detail : (k a b : ℕ) → a ≡ b → reply k a ≡ reply k b
+same_detail k a b e = ap (reply k) e
+
 pub answered : (x : Reply) (k a b : ℕ) → x ≡ reply k a → a ≡ b → x ≡ reply k b
 answered x k a b e h = e ∙ ap (reply k) h
 
-pub ruleset checks = (fires, passes, all_done, not_as, found_at, none_at, eq-eqb, ne_eqb, answered)
+pub ruleset checks = (fires, passes, all_done, not_as, found_at, none_at, index_fires, index_at, index_passes, eq-eqb, ne_eqb, same_detail, answered)
 
 -- ---- a row of checks, of which the code knows the answer alone: 0 where none fires
 

@@ -1,1 +1,2 @@
 pub mod Ladders
+pub mod Refusals

@@ -8,7 +8,7 @@ use Rattle.words.specs.Leaning.{without}
 use Rattle.words.proofs.Records as records
 use Rattle.bin_section.specs.declared.section.BinSection.{BinSection}
 use Rattle.bin_section.specs.Section.{section_at, section_words, zero_section}
-use Rattle.bin_section.proofs.Words.{section_layout}
+use Rattle.bin_section.specs.Layouts.{section_layout}
 use Rattle.sections.specs.Sections.{sections, all_words}
 use Rattle.sections.specs.Leaning.{Removed, Appended, ZeroPast, Cleared}
 use Rattle.sections.proofs.Reading.{section_at-put_same, section_at-put_other, length-sections, sections_ext, encoded, decoded, word_of}
@@ -34,13 +34,11 @@ appended w count s room =
       free = rw (add-one, tab_suc count (section_at w')) (ap₂ (λ (l : List BinSection) (x : BinSection). l ++ (x ∷ [])) first (section_at-put_same w count s room));
     }
 
--- the first n sections, copied to the front
-pub copied_sections : (from to to' : List ℕ) (n k : ℕ) → n * 6 ≤ length from → to' ≡ put to 0 (take k from) → k ≡ n * 6 → sections to' n ≡ sections from n
-unfolding put
-copied_sections from to to' n k room e' all =
-    let e : to' ≡ put to 0 (take (n * 6) from) = e' ∙ ap (λ (j : ℕ). put to 0 (take j from)) all in
-    decoded (sections from n) to' n (length-sections from n)
-    (ap (take (n * 6)) e ∙ take_at (take (n * 6) from) _ (n * 6) (length-take (n * 6) from ∙ omega arith) ∙ sym (encoded from n room))
+-- the words of the first n sections, copied to the front of others
+pub copied_sections : (from rest : List ℕ) (n : ℕ) → n * 6 ≤ length from → sections (take (n * 6) from ++ rest) n ≡ sections from n
+copied_sections from rest n room =
+    decoded (sections from n) (take (n * 6) from ++ rest) n (length-sections from n)
+    (take_at (take (n * 6) from) rest (n * 6) (length-take (n * 6) from ∙ omega arith) ∙ sym (encoded from n room))
 
 -- ---- what stands past the count
 

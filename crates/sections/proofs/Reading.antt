@@ -5,7 +5,7 @@ use Rattle.lists.proofs.Tabs.{length-tab, getd_tab}
 use Rattle.words.proofs.Records as records
 use Rattle.bin_section.specs.declared.section.BinSection.{BinSection}
 use Rattle.bin_section.specs.Section.{section_at, section_words, zero_section}
-use Rattle.bin_section.proofs.Words.{section_layout}
+use Rattle.bin_section.specs.Layouts.{section_layout}
 use Rattle.sections.specs.Sections.{sections, all_words}
 
 module _ (w : List ℕ) (i : ℕ) (s : BinSection) (fits : i * 6 + 6 ≤ length w) where

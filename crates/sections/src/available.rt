@@ -4,7 +4,7 @@ ghost use Rattle.sections.specs.Sections.{sections};
 ghost use Rattle.sections.specs.Leaning.{Removed, Appended, Cleared};
 
 use bin_section::BinSection;
-use words::{fill, put_words, take_out};
+use words::{Record, take_out};
 
 // Takes the section at i out of the first count: later ones move down one, and the freed last becomes six zeros.
 pub fn remove_section(words: &mut [u32], count: usize, i: usize)
@@ -29,9 +29,7 @@ pub fn clear_past(words: &mut [u32], count: usize)
     requires { count * 6 ≤ length words.old }
     ensures { Cleared count words.old words.new }
 {
-    let at = count * BinSection::WORDS;
-    let past = words.len() - at;
-    fill(words, at, past, 0);
+    words[count * BinSection::WORDS..].fill(0);
 }
 
 // Copies the first n sections of one list to the front of another.
@@ -40,5 +38,5 @@ pub fn copy_sections(from: &[u32], n: usize, to: &mut [u32])
     ensures { sections to.new n ≡ sections from.now n }
 {
     let end = n * BinSection::WORDS;
-    put_words(to, 0, &from[0..end]);
+    to[..end].copy_from_slice(&from[..end]);
 }

@@ -15,11 +15,11 @@ use Rattle.sections.specs.Leaning.{Cleared}
 use Rattle.words.proofs.Records.{length-joined-tab, partly, partly_more, partly_all}
 use Rattle.sections.proofs.Moves.{appended}
 use Rattle.target_bin.specs.declared.chamber.TargetBin.{TargetBin}
-use Rattle.target_bin.specs.Chambers.{fresh_bin, chamber_at, bin_words, chamber_count, chambers_of, table_of}
+use Rattle.target_bin.specs.Chambers.{chamber_at, bin_words, chamber_count, chambers_of, table_of}
 use Rattle.target_bin.specs.Store.{part_of, store_of}
 use Rattle.target_bin.specs.Fresh.{freshened, fresh_table, fresh_store}
-use Rattle.target_bin.proofs.Tables.{chamber_layout}
-use Rattle.target_bin.proofs.Parts.{length-part_of}
+use Rattle.target_bin.specs.Layouts.{chamber_layout}
+use Rattle.target_bin.proofs.Parts.{part_back, length-part_of}
 
 -- the free sections of a fresh chamber
 abbrev pub whole_of : TargetBin → List BinSection
@@ -36,9 +36,8 @@ fresh_part w v u s long wrote c =
     let n : length v - 1 * 6 ≡ 768 - 1 * 6 = ap (λ (x : List ℕ). length x - 1 * 6) wrote ∙ omega (arith, length-put w 0 (section_words s) (omega arith)) in
     c.words ∙ ap₂ (λ (l : List BinSection) (m : ℕ). all_words l ++ replicate m 0) one n
 
-pub fresh_record : (w w' : List ℕ) (i : ℕ) (b d : TargetBin) → w' ≡ put w (i * 5) (bin_words d) → d ≡ fresh_bin b.id b.whd → b ≡ chamber_at w i → w' ≡ put w (i * 5) (bin_words (freshened (chamber_at w i)))
-fresh_record w w' i b d wrote made read =
-    wrote ∙ ap (λ (x : TargetBin). put w (i * 5) (bin_words x)) (made ∙ ap (λ (x : TargetBin). freshened x) read)
+-- its part comes back
+pub ruleset freshen_rules = (part_back, length-part_of)
 
 -- ---- the chambers one after the other
 

@@ -8,3 +8,4 @@ pub mod Returning
 pub mod FreshModel
 pub mod Changing
 pub mod ReturnModel
+pub mod Knowing

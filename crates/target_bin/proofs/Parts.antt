@@ -5,6 +5,7 @@ use mathlib.Core.List.{List, [], ◌++◌, append_assoc}
 use borrow.Rule.Slice.PartMut.{put_mid}
 use native.Mathlib.Omega.{arith}
 use native.Mathlib.Decide.{dec_lt}
+use Rattle.std.specs.declared.ops.Range.{Range}
 use lib.ListN.{length, get_or, take, drop, set, replicate, length-append, length-take, length-drop, length-replicate}
 use lib.Seq.{length-take-le, get_or-take, get_or-drop, ext_get_or, take_at, drop_at, take_all}
 use Rattle.lists.specs.Tab.{tab, put}
@@ -17,7 +18,7 @@ use Rattle.sections.proofs.Reading.{decoded, length-sections, length-all_words}
 use Rattle.sections.proofs.Moves.{part_words}
 use Rattle.target_bin.specs.declared.chamber.TargetBin.{TargetBin}
 use Rattle.target_bin.specs.Chambers.{chamber_at, chamber_count}
-use Rattle.target_bin.specs.Store.{part_at, free_at, free_of, part_of, store_of}
+use Rattle.target_bin.specs.Store.{part_at, part_range, free_at, free_of, part_of, store_of}
 use Rattle.target_bin.specs.Leaning.{OnlyIn, ChangedIn, Counted, Shaped}
 
 -- ---- one chamber's part
@@ -85,6 +86,16 @@ part_room w c n h room = rw (lent_part w c) (omega (arith, length-part_at w c ro
 -- what is left of the store when a chamber's part comes back as ys
 pub came_back : (w ys : List ℕ) (c : ℕ) → length ys ≡ 768 → put_mid (c * 768) (c * 768 + 768 - c * 768) w ys ≡ put w (c * 768) ys
 came_back w ys c long = lent w ys (c * 768) (c * 768 + 768 - c * 768) (omega arith)
+
+-- the same of a chamber's part by its range
+module _ (r : Range ℕ) (k : ℕ) (e : r ≡ part_range k) where
+  pub part_lent : (w : List ℕ) → take (r.end - r.start) (drop r.start w) ≡ part_at w k
+  part_lent w = rw e (lent_part w k)
+
+  pub part_back : (w ys : List ℕ) → length ys ≡ 768 → put_mid r.start (r.end - r.start) w ys ≡ put w (k * 768) ys
+  part_back w ys long = rw e (came_back w ys k long)
+
+pub ruleset lent_rules = (part_lent, part_back, length-part_at)
 
 -- a chamber of shaped tables: its part is in the store, and its count, as it was read
 module _ (chambers store : List ℕ) (k : ℕ) (shaped : Shaped chambers store) (h : k < chamber_count chambers) where

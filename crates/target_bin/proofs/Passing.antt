@@ -1,11 +1,14 @@
 -- What checks 1, 2 and 3 mean: they pass exactly where the tables are sound.
 use Prim.Native.Nat.{ℕ, zero, suc, ◌*◌, ◌%◌, ◌≤◌, ◌<◌}
-use mathlib.Core.Path.{◌≡◌, refl, ap, ◌∙◌}
+use mathlib.Core.Path.{◌≡◌, refl, ap}
 use mathlib.Core.List.{List}
 use mathlib.Core.Bool.{true, false, ◌&&◌, not}
 use native.Mathlib.Omega.{arith}
 use borrow.Author.Tests.{lt-ltb, eq-eqb, le-leb, ltb-true, leb-true, eqb-true, not-false}
 use lib.ListN.{length}
+use Rattle.std.specs.Prelude.{Option}
+use Rattle.std.specs.Prelude.{None as Nothing}
+use Rattle.lists.specs.Lowest.{lowest_index}
 use lib.Dec.{leb, eqb}
 use Rattle.lists.proofs.Flags.{and_both, and_first, and_second}
 use Rattle.lists.proofs.Lowests.{None, any_none, none_any}
@@ -21,8 +24,7 @@ use Rattle.target_bin.specs.Chambers.{chamber_at, chamber_count}
 use Rattle.target_bin.specs.Store.{part_at}
 use Rattle.target_bin.specs.Checks.{lengths_ok, id_ok, shape_ok, chamber_ok, bad_shape, bad_chamber, bad_sections, table_checks}
 use Rattle.target_bin.specs.Leaning.{Counted, Shaped}
-use Rattle.target_bin.proofs.Checking.{lengths_store}
-use Rattle.replies.proofs.Ladders.{AllPass, row_passes, no_fault, none_passes}
+use Rattle.replies.proofs.Ladders.{index_none_at, AllPass, row_passes, no_fault, none_passes}
 
 -- 1
 pub record Lengths (chambers store : List ℕ) : Type 0 where
@@ -72,6 +74,10 @@ count_of chambers i t = leb-true _ _ (and_second (shape_ok chambers i) (leb (cha
 pub counted : (chambers : List ℕ) → None (chamber_count chambers) (bad_chamber chambers) → Counted chambers
 counted chambers p = record { counts = λ i h. count_of chambers i (not-false _ (p.at i h)) }
 
+-- so where the search finds none
+pub counted_by : (chambers : List ℕ) (r : Option ℕ) → r ≡ lowest_index (chamber_count chambers) (bad_chamber chambers) → r ≡ Nothing → Counted chambers
+counted_by chambers r e p = counted chambers (index_none_at _ _ r e p)
+
 pub shapes : (chambers : List ℕ) → None (chamber_count chambers) (bad_chamber chambers) → None (chamber_count chambers) (bad_shape chambers)
 shapes chambers p = record { at = λ i h. ap not (shape_of chambers i (not-false _ (p.at i h))) }
 
@@ -111,7 +117,8 @@ sound chambers store t p q =
 
 module _ (chambers store : List ℕ) where
   →lengths : Lengths chambers store → lengths_ok chambers store ≡ true
-  →lengths l = lengths_store chambers store (omega (arith, l.whole)) l.few ∙ eq-eqb _ _ l.long
+  unfolding lengths_ok
+  →lengths l = and_both _ _ (eq-eqb _ _ (omega (arith, l.whole))) (and_both _ _ (le-leb _ _ l.few) (eq-eqb _ _ l.long))
 
 →id : (chambers : List ℕ) (i : ℕ) → ShapesSound chambers → i < chamber_count chambers → id_ok chambers i ≡ true
 unfolding id_ok

@@ -17,7 +17,7 @@ use Rattle.lists.proofs.Lowests.{lowest_fires, none_below_lowest}
 use Rattle.bin_section.specs.declared.section.BinSection.{BinSection}
 use Rattle.replies.specs.declared.reply.Reply.{Reply}
 use Rattle.bin_section.specs.Section.{section_at, section_words, zero_section}
-use Rattle.bin_section.specs.declared.overlaps.Common.TheVariants.{Apart}
+use Rattle.std.specs.Prelude.{None}
 use Rattle.bin_section.specs.Boxes.{box_at}
 use Rattle.bin_section.specs.Cell.{SharesCell}
 use Rattle.bin_section.specs.Overlap.{overlaps_of, common_of}
@@ -121,7 +121,7 @@ module _ (chambers store : List ℕ) (id : ℕ) (box : BinSection) where
       past _ _ (table_checks chambers store) _ (tables_pass chambers store a.sound_before)
       ∙ past_all _ _ (return_checks chambers store id box) (p8, (p9, (p10, (p11, tt))))
 
-  pub return_result : Accepted → return_of chambers store id box ≡ with_common Apart (stored chambers store (chamber_of chambers id) (chamber_at chambers (chamber_of chambers id)).count box)
+  pub return_result : Accepted → return_of chambers store id box ≡ with_common None (stored chambers store (chamber_of chambers id) (chamber_at chambers (chamber_of chambers id)).count box)
   unfolding return_of return_common
   return_result a = ap (λ (o : Outcome). with_common (return_common (part_at store here) box o.reply) o) (outcome_result a)
 
@@ -188,7 +188,7 @@ module _ (chambers store : List ℕ) (id : ℕ) (box : BinSection) where
       (rw e (ap (λ (s : BinSection). common_of s box) (sym (at i l))))
 
   -- any other reply hands on none
-  pub return_none : ((return_of chambers store id box).reply.number ≡ 10 → ⊥) → (return_of chambers store id box).common ≡ Apart
+  pub return_none : ((return_of chambers store id box).reply.number ≡ 10 → ⊥) → (return_of chambers store id box).common ≡ None
   unfolding return_of return_outcome
   return_none = job_none chambers store (return_checks chambers store id box) (returned chambers store id box) (return_common (part_at store here) box) (no_common chambers store id box)
 

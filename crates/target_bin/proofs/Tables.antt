@@ -2,28 +2,15 @@
 use Prim.Native.Nat.{ℕ, ◌+◌, ◌*◌, ◌≤◌, ◌<◌}
 use mathlib.Core.Path.{◌≡◌, refl, ◌∙◌}
 use mathlib.Core.List.{List}
-use native.Mathlib.Nat.{add-zero}
 use native.Mathlib.Omega.{arith}
 use lib.ListN.{length, get_or, set}
 use lib.Seq.{get_or-set_same, get_or-set_other, take_all}
-use Rattle.lists.specs.Tab.{tab}
-use Rattle.lists.proofs.Tabs.{length-tab, getd_tab, middle}
-use Rattle.words.proofs.Records.{Layout, length-joined, encoded, at_joined}
+use Rattle.lists.proofs.Tabs.{length-tab, getd_tab}
+use Rattle.words.proofs.Records.{length-joined, encoded, at_joined}
 use Rattle.bin_section.specs.Sides.{sides}
 use Rattle.target_bin.specs.declared.chamber.TargetBin.{TargetBin}
+use Rattle.target_bin.specs.Layouts.{chamber_layout}
 use Rattle.target_bin.specs.Chambers.{bin, chamber_at, bin_words, chamber_count, chambers_of, table_of}
-
-pub chamber_layout : Layout 5 chamber_at (λ b. bin_words b)
-unfolding chamber_at tab
-chamber_layout =
-    record {
-      size = λ b. refl;
-      ext = λ w v i j h.
-          let x : get_or w (i * 5) 0 ≡ get_or v (j * 5) 0 = simp add-zero at (h 0 (omega arith)) in
-          rw (x, h 1 (omega arith), h 2 (omega arith), h 3 (omega arith), h 4 (omega arith));
-      read_back = λ b. refl;
-      written_back = λ w i h. rw (middle 5 (i * 5) w h) (simp add-zero);
-    }
 
 -- ---- the table read and written
 

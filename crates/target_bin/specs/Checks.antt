@@ -1,5 +1,5 @@
 -- Checks 1, 2 and 3, and 8. Fresh makes 1 and 2 without the counts; pack makes all three first; a job on one chamber makes 8 after them.
-use Rattle.std.specs.Prelude.{ℕ, zero, suc, ◌*◌, ◌%◌, List, [], ◌∷◌, Bool, true, ◌&&◌, not, length, ltb, leb, eqb}
+use Rattle.std.specs.Prelude.{ℕ, zero, suc, ◌*◌, ◌%◌, List, [], ◌∷◌, ◌++◌, Bool, true, ◌&&◌, not, length, ltb, leb, eqb}
 use Rattle.lists.specs.Lowest.{any_below}
 use Rattle.bin_section.specs.Sides.{sides_ok}
 use Rattle.replies.specs.declared.reply.Reply.{Reply}
@@ -62,3 +62,7 @@ table_checks chambers store = check1 chambers store ∷ check2 chambers ∷ chec
 -- 8: "no chamber has the id"
 abbrev pub check8 : List ℕ → ℕ → Check Reply
 check8 chambers id = once (reply 8 0) (not (any_below (chamber_count chambers) (has_id chambers id)))
+
+-- 1, 2, 3 and 8, with which a job on one chamber begins
+abbrev pub known_checks : List ℕ → List ℕ → ℕ → List (Check Reply)
+known_checks chambers store id = table_checks chambers store ++ (check8 chambers id ∷ [])

@@ -1,5 +1,6 @@
 pub mod Chambers
 pub mod Store
+pub mod Layouts
 pub mod Checks
 pub mod Outcome
 pub mod Fresh

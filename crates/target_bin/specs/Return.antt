@@ -1,9 +1,7 @@
 -- The return of a section, and the common box that it hands on.
-use Rattle.std.specs.Prelude.{ℕ, ◌+◌, ◌*◌, List, [], ◌∷◌, ◌++◌, not, cond, set, eqb}
+use Rattle.std.specs.Prelude.{ℕ, ◌+◌, ◌*◌, List, [], ◌∷◌, ◌++◌, not, cond, set, eqb, Option, None}
 use Rattle.lists.specs.Tab.{put}
 use Rattle.bin_section.specs.declared.section.BinSection.{BinSection}
-use Rattle.bin_section.specs.declared.overlaps.Common.{Common}
-use Rattle.bin_section.specs.declared.overlaps.Common.TheVariants.{Apart}
 use Rattle.bin_section.specs.Section.{section_at, section_words}
 use Rattle.bin_section.specs.Overlap.{common_of}
 use Rattle.replies.specs.declared.reply.Reply.{Reply}
@@ -42,8 +40,8 @@ return_outcome chambers store id box =
     (returned chambers store id box)
 
 -- "Return with 10 .. hand it on beside the detail": the common box of the box and the free section that the detail names; otherwise none
-unfoldable pub return_common : List ℕ → BinSection → Reply → Common
-return_common part box r = cond (eqb r.number 10) (common_of (section_at part r.detail) box) Apart
+unfoldable pub return_common : List ℕ → BinSection → Reply → Option BinSection
+return_common part box r = cond (eqb r.number 10) (common_of (section_at part r.detail) box) None
 
 -- all that a return answers and leaves, on every input: beside the common box "all else stays as before"
 unfoldable pub return_of : List ℕ → List ℕ → ℕ → BinSection → CommonOutcome

@@ -1,5 +1,6 @@
 -- The store: the free sections of each chamber.
-use Rattle.std.specs.Prelude.{ℕ, ◌*◌, ◌-◌, List, ◌++◌, length, take, drop, replicate}
+use Rattle.std.specs.Prelude.{ℕ, ◌+◌, ◌*◌, ◌-◌, List, ◌++◌, length, take, drop, replicate}
+use Rattle.std.specs.declared.ops.Range.{Range}
 use Rattle.lists.specs.Tab.{tab}
 use Rattle.bin_section.specs.declared.section.BinSection.{BinSection}
 use Rattle.words.specs.Words.{joined}
@@ -9,6 +10,10 @@ use Rattle.target_bin.specs.Chambers.{chamber_at, chamber_count}
 -- "Each chamber's 768 words are handled as one part of the store."
 unfoldable pub part_at : List ℕ → ℕ → List ℕ
 part_at store k = take 768 (drop (k * 768) store)
+
+-- where that part stands
+abbrev pub part_range : ℕ → Range ℕ
+part_range k = record { start = k * 768; end = k * 768 + 768 }
 
 -- the free sections of the chamber at an index
 unfoldable pub free_at : List ℕ → List ℕ → ℕ → List BinSection

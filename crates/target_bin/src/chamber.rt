@@ -1,13 +1,15 @@
 // A chamber: its record of five words, and the capacities of the tables.
-ghost use Rattle.std.specs.Prelude.{◌≡◌, ◌+◌, ◌*◌, ◌≤◌, length, set};
-ghost use Rattle.lists.specs.Tab.{put};
-ghost use Rattle.target_bin.specs.Chambers.{fresh_bin, chamber_at, bin_words};
+ghost use Rattle.std.specs.Prelude.{◌≡◌, ◌+◌, ◌*◌, ◌<◌, ◌≤◌, length, set};
+ghost use Rattle.target_bin.specs.Chambers.{fresh_bin, chamber_at, chamber_count, bin_words};
+ghost use Rattle.target_bin.specs.Store.{part_range};
+ghost use Rattle.target_bin.specs.Layouts.{chamber_layout};
 
 use bin_section::{BinSection, WidthHeightDepth};
-use words::put_words;
+use std::ops::Range;
+use words::Record;
 
 // The free sections themselves lie in the store: count says how many they are.
-#[derive(Clone, Copy)]
+#[derive(Clone, Copy, Default, Debug, PartialEq, Eq)]
 pub struct TargetBin {
     pub id: u32,
     pub whd: WidthHeightDepth,
@@ -31,40 +33,20 @@ impl TargetBin {
         TargetBin { id, whd, count: 1 }
     }
 
-    // The chamber at index i of the table.
-    pub fn read(chambers: &[u32], i: usize) -> TargetBin
-        requires { i * 5 + 5 ≤ length chambers.now }
-        ensures { result ≡ chamber_at chambers.now i }
+    // How many chambers a table has.
+    pub fn count_in(chambers: &[u32]) -> usize
+        ensures { result ≡ chamber_count chambers.now }
     {
-        let at = i * TargetBin::WORDS;
-        TargetBin {
-            id: chambers[at],
-            whd: WidthHeightDepth {
-                width: chambers[at + 1],
-                height: chambers[at + 2],
-                depth: chambers[at + 3],
-            },
-            count: chambers[at + 4],
-        }
+        chambers.len() / TargetBin::WORDS
     }
 
-    // Writes the record to index i of the table.
-    pub fn write(self, chambers: &mut [u32], i: usize)
-        requires { i * 5 + 5 ≤ length chambers.old }
-        ensures { chambers.new ≡ put chambers.old (i * 5) (bin_words self) }
+    // Where the words of chamber k stand in the store.
+    pub fn part(k: usize) -> Range<usize>
+        requires { (k + 1) * 768 < 18446744073709551616 }
+        ensures { result ≡ part_range k }
     {
-        let at = i * TargetBin::WORDS;
-        put_words(
-            chambers,
-            at,
-            &[
-                self.id,
-                self.whd.width,
-                self.whd.height,
-                self.whd.depth,
-                self.count,
-            ],
-        );
+        let start = k * TargetBin::STORE;
+        start..start + TargetBin::STORE
     }
 
     // Writes the free count of the chamber at index i, and no other word.
@@ -75,4 +57,38 @@ impl TargetBin {
         let at = i * TargetBin::WORDS + 4;
         chambers[at] = count;
     }
+}
+
+// From its five words: id, width, height, depth, free count.
+impl From<[u32; 5]> for TargetBin {
+    ghost from_gives = { λ words b. b ≡ chamber_at words 0 };
+
+    #[tactic(auto, unfolding(crate::specs::Chambers::chamber_at))]
+    fn from([id, width, height, depth, count]: [u32; 5]) -> TargetBin {
+        TargetBin {
+            id,
+            whd: WidthHeightDepth::new(width, height, depth),
+            count,
+        }
+    }
+}
+
+impl From<TargetBin> for [u32; 5] {
+    ghost from_gives = { λ b words. words ≡ bin_words b };
+
+    fn from(b: TargetBin) -> [u32; 5] {
+        [b.id, b.whd.width, b.whd.height, b.whd.depth, b.count]
+    }
+}
+
+impl Record<5> for TargetBin {
+    ghost record_at = { chamber_at };
+
+    ghost record_words = { λ b. bin_words b };
+
+    ghost layout = { chamber_layout };
+
+    ghost from_words = { λ w b e. e };
+
+    ghost to_words = { λ b w e. e };
 }

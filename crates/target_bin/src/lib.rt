@@ -8,6 +8,6 @@ mod push_available_bin_section;
 mod returns;
 
 pub use chamber::TargetBin;
-pub use checks::{check_tables, find_chamber};
+pub use checks::{check_tables, find_chamber, known_chamber};
 pub use freshen::fresh;
 pub use returns::return_section;

@@ -1,4 +1,2 @@
-pub mod Asciis
-pub mod Decimals
+pub mod Displaying
 pub mod Numerals
-pub mod Writing

@@ -1,4 +1,5 @@
 pub mod Six
+pub mod Words
 pub mod Choosing
 pub mod Meaning
 pub mod Trying

@@ -1,72 +1,102 @@
--- Laws of a try whose answer comes first: a refusal has nothing else to give, and what is placed passed every check.
-use mathlib.Core.Path.{◌≡◌, refl, ap, ◌∙◌}
+-- Laws of the answer to a try: what a location says, and that no refusal has a detail.
+use mathlib.Core.Path.{◌≡◌, refl, ap}
+use mathlib.Core.Bool.{Bool, true, false, not, cond}
 use mathlib.Core.List.{List, [], ◌∷◌}
-use mathlib.Core.Logic.{inl, inr}
-use native.Mathlib.Omega.{arith}
-use types.Run.{OneOf, miss}
-use denote.Enum.Declared.{tag_of}
-use Rattle.replies.proofs.Ladders.{AllPass, row_passes, alone_fires, past_all, in_map}
+use borrow.Author.Tests.{le-ltb, ltb-false}
+use Rattle.std.proofs.Common.{Result, Ok, Err, MatchResult, is_ok}
+use Rattle.replies.specs.Replies.{Check, in_order, reply}
+use Rattle.replies.proofs.Ladders.{AllPass, past_all}
+use Rattle.replies.specs.declared.refusal.Refusal.TheVariants.{BadSection, BadRectangle}
 use Rattle.bin_section.specs.declared.rect_to_insert.RectToInsert.{RectToInsert}
 use Rattle.bin_section.specs.declared.section.BinSection.{BinSection}
+use Rattle.bin_section.specs.Sides.{sides_ok}
+use Rattle.try_place.specs.declared.fitting.BinSectionError.{BinSectionError}
+use Rattle.try_place.specs.declared.fitting.BinSectionError.TheVariants.{PlacementWiderThanBinSection, PlacementTallerThanBinSection, PlacementDeeperThanBinSection}
 use Rattle.try_place.specs.declared.packed_location.PackedLocation.{PackedLocation}
-use Rattle.try_place.specs.declared.Tried.{Tried}
-use Rattle.try_place.specs.declared.TryAnswer.{TryAnswer}
-use Rattle.try_place.specs.declared.TryAnswer.TheVariants.{
-  Placed,
-  BadSection,
-  BadRectangle,
-  PlacementWiderThanBinSection,
-  PlacementTallerThanBinSection,
-  PlacementDeeperThanBinSection,
-}
-use Rattle.try_place.specs.Try.{refused_of, placed_of, fit_checks, fit_of, try_checks, try_of, number_of}
-use Rattle.try_place.specs.contracts.TryAnswer.{the_type}
+use Rattle.try_place.specs.Location.{location_in}
+use Rattle.try_place.specs.Try.{section_ok, Fits, fit_checks, fit_of, refused_fit, try_checks, try_answer, reply_of, number_of, on_placed}
 
--- the tags of the refusals
-abbrev Refusal : TryAnswer → Type 0
-Refusal a = OneOf (1 ∷ 2 ∷ 3 ∷ 4 ∷ 5 ∷ []) (tag_of the_type a)
-
--- what is not placed is a refusal
-pub refusal : (a : TryAnswer) → ((l : PackedLocation) → a ≡ Placed l → ⊥) → Refusal a
-refusal (Placed l) n = absurd (n l refl)
-refusal BadSection n = inl refl
-refusal BadRectangle n = inr (inl refl)
-refusal PlacementWiderThanBinSection n = inr (inr (inl refl))
-refusal PlacementTallerThanBinSection n = inr (inr (inr (inl refl)))
-refusal PlacementDeeperThanBinSection n = inr (inr (inr (inr refl)))
-
--- a refusal's number is not 0
-refusal_numbered : (a : TryAnswer) → Refusal a → number_of a ≡ 0 → ⊥
-refusal_numbered (Placed l) o e = miss (1 ∷ 2 ∷ 3 ∷ 4 ∷ 5 ∷ []) 0 tt o
-refusal_numbered BadSection o e = omega arith
-refusal_numbered BadRectangle o e = omega arith
-refusal_numbered PlacementWiderThanBinSection o e = omega arith
-refusal_numbered PlacementTallerThanBinSection o e = omega arith
-refusal_numbered PlacementDeeperThanBinSection o e = omega arith
+-- what is done passed every check
+pub done_passes : {A E : Type 0} (cs : List (Check E)) (d : Result A E) (x : A) → in_order cs (λ e. Err e) d ≡ Ok x → AllPass cs × (d ≡ Ok x)
+unfolding in_order
+done_passes [] d x e = (tt, e)
+done_passes {A} {E} (c ∷ cs) d x e = go (done_passes cs d x) c.fires refl e
+  where
+    go :
+        (in_order cs (λ e. Err e) d ≡ Ok x → AllPass cs × (d ≡ Ok x))
+        → (b : Bool)
+        → c.fires ≡ b
+        → cond b (Err c.answer) (in_order cs (λ e. Err e) d) ≡ Ok x
+        → AllPass (c ∷ cs) × (d ≡ Ok x)
+    go rest true p q = absurd (cc)
+    go rest false p q = let h = rest q in ((p, h.0), h.1)
 
 module _ (s : BinSection) (r : RectToInsert) where
-  pub refused-try : (x : TryAnswer) → x ≡ (try_of s r).answer → Refusal x → refused_of x ≡ try_of s r
-  unfolding try_of
-  refused-try x e o =
-      alone_fires number_of (λ a. refused_of a) (placed_of s r) (try_checks s r) _ x refl
-      (e ∙ in_map (λ a. refused_of a) (placed_of s r) (λ t. t.answer) (try_checks s r)) (refusal_numbered x o)
-
-  pub fit_passes : (l : PackedLocation) → (fit_of s r).answer ≡ Placed l → AllPass (fit_checks s r)
+  pub fit_placed : Fits s r → fit_of s r ≡ Ok (location_in s r)
   unfolding fit_of fit_checks
-  fit_passes l e = row_passes (λ t. number_of t.answer) (λ a. refused_of a) (placed_of s r) (fit_checks s r) (fit_of s r) refl refl (ap number_of e)
+  fit_placed f = past_all _ _ (fit_checks s r) (le-ltb _ _ f.width_fits, (le-ltb _ _ f.height_fits, (le-ltb _ _ f.depth_fits, tt)))
 
-  pub try_passes : (l : PackedLocation) → (try_of s r).answer ≡ Placed l → AllPass (try_checks s r)
-  unfolding try_of try_checks fit_checks
-  try_passes l e = row_passes (λ t. number_of t.answer) (λ a. refused_of a) (placed_of s r) (try_checks s r) (try_of s r) refl refl (ap number_of e)
+  -- a location says that the section fits, and which it is
+  pub fit_fits : (l : PackedLocation) → fit_of s r ≡ Ok l → Fits s r × (l ≡ location_in s r)
+  unfolding fit_of fit_checks
+  fit_fits l e =
+      let p = done_passes (fit_checks s r) (Ok (location_in s r)) l e in
+      (record { width_fits = ltb-false _ _ p.0.0; height_fits = ltb-false _ _ p.0.1.0; depth_fits = ltb-false _ _ p.0.1.1.0 }, cc)
 
-  pub fit_placed : AllPass (fit_checks s r) → fit_of s r ≡ placed_of s r
-  unfolding fit_of
-  fit_placed p = past_all _ _ (fit_checks s r) p
+  -- and a refusal that it does not
+  pub fit_told : MatchResult (fit_of s r) (λ l. Fits s r × (l ≡ location_in s r)) (λ e. Fits s r → ⊥)
+  fit_told =
+      elim (fit_of s r) as (λ o. fit_of s r ≡ o → MatchResult o (λ l. Fits s r × (l ≡ location_in s r)) (λ e. Fits s r → ⊥)) [
+        | Ok l ↦ λ e. fit_fits l e
+        | Err x ↦ λ e f. absurd (cc (fit_placed f))
+      ]
+      refl
 
-  pub try_placed : AllPass (try_checks s r) → try_of s r ≡ placed_of s r
-  unfolding try_of
-  try_placed p = past_all _ _ (try_checks s r) p
+  -- where it does not fit, the refusal goes on with what else there is
+  pub fit_refused : (Fits s r → ⊥) → {A : Type 0} (f : PackedLocation → A) (e : A) → on_placed (fit_of s r) f e ≡ e
+  fit_refused n f e =
+      elim (fit_of s r) as (λ o. MatchResult o (λ l. Fits s r × (l ≡ location_in s r)) (λ x. Fits s r → ⊥) → on_placed o f e ≡ e) [
+        | Ok l ↦ λ p. absurd (n p.0)
+        | Err x ↦ λ p. refl
+      ]
+      fit_told
 
--- the sections put beside the answer
-pub beside : (x : TryAnswer) (three : List BinSection) (t : Tried) → x ≡ t.answer → three ≡ t.sections → record { answer = x; sections = three } ≡ t
-beside x three t e f = rw (e, f)
+  -- what the code's test says
+  pub ok_fits : is_ok (fit_of s r) ≡ true → Fits s r
+  ok_fits =
+      elim (fit_of s r) as (λ o. MatchResult o (λ l. Fits s r × (l ≡ location_in s r)) (λ x. Fits s r → ⊥) → is_ok o ≡ true → Fits s r) [
+        | Ok l ↦ λ p t. p.0
+        | Err x ↦ λ p t. absurd (cc)
+      ]
+      fit_told
+
+  pub not_ok : is_ok (fit_of s r) ≡ false → Fits s r → ⊥
+  not_ok t f = absurd (cc (ap is_ok (fit_placed f)))
+
+  -- a location in the answer to a try says that the section is good, and the fit's answer
+  pub answer_fits : (l : PackedLocation) → try_answer s r ≡ Ok l → (not (section_ok s) ≡ false) × Fits s r
+  unfolding try_answer try_checks
+  answer_fits l e =
+      let p = done_passes (try_checks s r) (refused_fit (fit_of s r)) l e in (
+        p.0.0,
+        elim (fit_of s r) as (λ o. fit_of s r ≡ o → refused_fit o ≡ Ok l → Fits s r) [
+          | Ok k ↦ λ f q. (fit_fits k f).0
+          | Err x ↦ λ f q. absurd (cc)
+        ]
+            refl p.1,
+      )
+
+-- "A detail that isn't named is 0"
+zero_detail :
+    (a b : Bool) (o : Result PackedLocation BinSectionError)
+    → let t = cond a (Err (BadSection 0)) (cond b (Err (BadRectangle 0)) (refused_fit o)) in reply_of t ≡ reply (number_of t) 0
+zero_detail true b o = refl
+zero_detail false true o = refl
+zero_detail false false (Ok l) = refl
+zero_detail false false (Err PlacementWiderThanBinSection) = refl
+zero_detail false false (Err PlacementTallerThanBinSection) = refl
+zero_detail false false (Err PlacementDeeperThanBinSection) = refl
+
+pub no_detail : (s : BinSection) (r : RectToInsert) → reply_of (try_answer s r) ≡ reply (number_of (try_answer s r)) 0
+unfolding try_answer try_checks in_order
+no_detail s r = zero_detail (not (section_ok s)) (not (sides_ok r.whd)) (fit_of s r)

@@ -3,117 +3,59 @@
 
 ghost use Rattle.std.specs.Prelude.{◌≡◌};
 ghost use Rattle.try_place.specs.Leaning.{Fitting};
-ghost use Rattle.try_place.specs.Try.{span_ok, section_ok, refused_of, placed_of, fit_of, try_of, number_of, location_of};
-ghost use Rattle.replies.specs.Replies.{reply};
+ghost use Rattle.try_place.specs.Try.{span_ok, section_ok, chosen_three, try_answer, try_of, reply_of, location_of};
 
 mod choice;
+mod fitting;
 mod packed_location;
 mod splits;
+mod tried_words;
 
 use bin_section::{BinSection, RectToInsert, WidthHeightDepth, side_ok};
 use choice::choose;
+pub use fitting::{BinSectionError, fit};
 pub use packed_location::PackedLocation;
-use replies::Reply;
+use replies::{Refusal, Reply};
 use splits::six_splits;
 
-// The answer to a try. The last three are the Rust's BinSectionError.
-#[derive(Clone, Copy)]
-pub enum TryAnswer {
-    Placed(PackedLocation),
-    BadSection,
-    BadRectangle,
-    PlacementWiderThanBinSection,
-    PlacementTallerThanBinSection,
-    PlacementDeeperThanBinSection,
-}
-
-// The answer with the three sections beside it, right, above, behind. A refusal has three zero sections.
+// The answer with the three sections beside it, right, above, behind. A refusal has three zero sections, so it is no Result of both.
 #[derive(Clone, Copy)]
 pub struct Tried {
-    pub answer: TryAnswer,
+    pub answer: Result<PackedLocation, Refusal>,
     pub sections: [BinSection; 3],
 }
 
 impl Tried {
     // The words of a location and three sections.
     pub const WORDS: usize = PackedLocation::WORDS + 3 * BinSection::WORDS;
-}
 
-impl TryAnswer {
-    fn number(self) -> u32
-        ensures { result ≡ number_of self }
+    pub fn reply(&self) -> Reply
+        ensures { result ≡ reply_of self.now.answer }
     {
-        match self {
-            TryAnswer::Placed(_) => Reply::DONE,
-            TryAnswer::BadSection => Reply::BAD_SECTION,
-            TryAnswer::BadRectangle => Reply::BAD_RECTANGLE,
-            TryAnswer::PlacementWiderThanBinSection => Reply::TOO_WIDE,
-            TryAnswer::PlacementTallerThanBinSection => Reply::TOO_TALL,
-            TryAnswer::PlacementDeeperThanBinSection => Reply::TOO_DEEP,
+        match self.answer {
+            Ok(_) => Reply::new(Reply::DONE, 0),
+            Err(refusal) => Reply::from(refusal),
         }
     }
 
-    // "A detail that isn't named is 0."
-    pub fn reply(self) -> Reply
-        ensures { result ≡ reply (number_of self) 0 }
-    {
-        Reply::new(self.number(), 0)
-    }
-
     // The location, zero where the try is refused.
-    pub fn location(self) -> PackedLocation
-        ensures { result ≡ location_of self }
+    pub fn location(&self) -> PackedLocation
+        ensures { result ≡ location_of self.now.answer }
     {
-        let TryAnswer::Placed(location) = self else {
-            return PackedLocation {
-                x: 0,
-                y: 0,
-                z: 0,
-                whd: WidthHeightDepth::new(0, 0, 0),
-            };
+        let Ok(location) = self.answer else {
+            return PackedLocation::zero();
         };
         location
     }
 }
 
-fn refused(answer: TryAnswer) -> Tried
-    ensures { result ≡ refused_of answer }
-{
-    let zero = BinSection::zero();
-    let sections = [zero, zero, zero];
-    Tried { answer, sections }
-}
-
-// Where the rectangle goes in the section, or why it does not fit: the Rust's incoming_can_fit.
-pub fn fit(section: BinSection, incoming: RectToInsert) -> TryAnswer
-    ensures { result ≡ (fit_of section incoming).answer }
-{
-    if section.whd.width < incoming.whd.width {
-        return TryAnswer::PlacementWiderThanBinSection;
-    }
-    if section.whd.height < incoming.whd.height {
-        return TryAnswer::PlacementTallerThanBinSection;
-    }
-    if section.whd.depth < incoming.whd.depth {
-        return TryAnswer::PlacementDeeperThanBinSection;
-    }
-    let whd = incoming.whd;
-    TryAnswer::Placed(PackedLocation {
-        x: section.x,
-        y: section.y,
-        z: section.z,
-        whd,
-    })
-}
-
 // The chosen three, of a section that fits. It stands apart from the tests, so that a refusal costs the tests alone.
 pub fn chosen_three(section: BinSection, incoming: RectToInsert) -> [BinSection; 3]
     requires { Fitting section incoming }
-    ensures { result ≡ (placed_of section incoming).sections }
+    ensures { result ≡ chosen_three section incoming }
 {
     let splits = six_splits(section, incoming);
-    let k = choose(splits);
-    splits[k]
+    splits[choose(splits)]
 }
 
 fn in_range(s: BinSection) -> bool
@@ -123,6 +65,7 @@ fn in_range(s: BinSection) -> bool
 }
 
 // Whether a side is 1 to 65,535 and ends at 65,535 at most. The sum is made in 64 bits: in 32 it could wrap.
+#[tactic(auto, unfolding(crate::specs::Try::span_ok))]
 fn span_ok(origin: u32, side: u32) -> bool
     ensures { result ≡ span_ok origin side }
 {
@@ -130,16 +73,17 @@ fn span_ok(origin: u32, side: u32) -> bool
 }
 
 // The checks 3 and 4, then the fit.
-fn answer_to(section: BinSection, rectangle: RectToInsert) -> TryAnswer
-    ensures { result ≡ (try_of section rectangle).answer }
+#[tactic(auto, unfolding(crate::specs::Try::try_answer, crate::specs::Try::try_checks, replies::specs::Replies::in_order))]
+fn answer_to(section: BinSection, rectangle: RectToInsert) -> Result<PackedLocation, Refusal>
+    ensures { result ≡ try_answer section rectangle }
 {
     if !in_range(section) {
-        return TryAnswer::BadSection;
+        return Err(Refusal::BadSection(0));
     }
     if !rectangle.whd.in_range() {
-        return TryAnswer::BadRectangle;
+        return Err(Refusal::BadRectangle(0));
     }
-    fit(section, rectangle)
+    Ok(fit(section, rectangle)?)
 }
 
 // Try one placement, for any section and any rectangle: the Rust's try_place.
@@ -147,9 +91,14 @@ pub fn try_placement(section: BinSection, rectangle: RectToInsert) -> Tried
     ensures { result ≡ try_of section rectangle }
 {
     let answer = answer_to(section, rectangle);
-    let TryAnswer::Placed(_) = answer else {
-        return refused(answer);
+    let Ok(_) = answer else {
+        return Tried {
+            answer,
+            sections: [BinSection::zero(); 3],
+        };
     };
-    let sections = chosen_three(section, rectangle);
-    Tried { answer, sections }
+    Tried {
+        answer,
+        sections: chosen_three(section, rectangle),
+    }
 }

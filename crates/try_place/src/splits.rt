@@ -32,6 +32,7 @@ fn three(sides: [u32; 3]) -> WidthHeightDepth
 
 // The six, each right, above, behind. In the Rust the rows bear the names depth_largest_height_second_largest_width_smallest,
 // depth_largest_width_.., height_largest_depth_.., height_largest_width_.., width_largest_depth_.., width_largest_height_...
+#[tactic(auto, unfolding(crate::specs::Splits::six_splits))]
 pub fn six_splits(s: BinSection, r: RectToInsert) -> [[BinSection; 3]; 6]
     requires { Fitting s r }
     ensures { result ≡ six_splits s r }

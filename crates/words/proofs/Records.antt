@@ -13,6 +13,7 @@ use Rattle.lists.specs.Tab.{tab, put, remove_at}
 use Rattle.lists.proofs.Tabs.{length-tab, getd_tab, tab_suc, tab-set, length-put, length-remove_at, getd_remove_at_before, getd_remove_at_after, getd_put_in, getd_put_before, getd_put_after}
 use Rattle.lists.proofs.Fills.{front-put}
 use Rattle.words.specs.Words.{joined}
+use Rattle.words.specs.Records.{Layout}
 use Rattle.words.specs.Leaning.{without}
 use Rattle.words.proofs.Taking.{without_before, without_moved, without_zero, without_past}
 
@@ -94,15 +95,6 @@ module _ {A : Type 0} (words : A → List ℕ) where
     partly_all n long = rw (drop_of_length-le w₀ {i = n * k} (omega arith)) (append-nil (joined words (tab n g)))
 
 -- ---- a kind of record
-
--- how a record lies in a table: in k words, read at an index, and written as words
-pub record Layout {A : Type 0} (k : ℕ) (at : List ℕ → ℕ → A) (words : A → List ℕ) : Type 0 where
-  pub size : (a : A) → length (words a) ≡ k
-  -- what is read hangs on its k words alone
-  pub ext : (w v : List ℕ) (i j : ℕ) → ((m : ℕ) → m < k → get_or w (i * k + m) 0 ≡ get_or v (j * k + m) 0) → at w i ≡ at v j
-  -- what is written is read again, and what is read is written again
-  pub read_back : (a : A) → at (words a) 0 ≡ a
-  pub written_back : (w : List ℕ) (i : ℕ) → i * k + k ≤ length w → words (at w i) ≡ take k (drop (i * k) w)
 
 module _ {A : Type 0} (k : ℕ) (at : List ℕ → ℕ → A) (words : A → List ℕ) (L : Layout k at words) where
   pub at_first : (w v : List ℕ) (i : ℕ) → ((m : ℕ) → m < k → get_or w (i * k + m) 0 ≡ get_or v m 0) → at w i ≡ at v 0

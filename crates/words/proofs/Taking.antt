@@ -1,10 +1,10 @@
 -- What stands at each place when k words were taken out of a table.
 use Prim.Native.Nat.{ℕ, ◌+◌, ◌-◌, ◌≤◌, ◌<◌}
-use mathlib.Core.Path.{◌≡◌, ◌∙◌}
+use mathlib.Core.Path.{◌≡◌, refl, ◌∙◌}
 use mathlib.Core.List.{List}
 use native.Mathlib.Omega.{arith}
 use lib.ListN.{length, get_or, take, drop, replicate, length-replicate, get_or-replicate, length-take, length-drop}
-use lib.Seq.{get_or-take, get_or-drop}
+use lib.Seq.{get_or-take, get_or-drop, paste}
 use Rattle.lists.specs.Tab.{put}
 use Rattle.lists.proofs.Tabs.{length-put, getd_put_in, getd_put_before, getd_put_after}
 use Rattle.words.specs.Leaning.{moved_down, without}
@@ -54,3 +54,10 @@ module _ (at k n : ℕ) (w : List ℕ) (room : at + k + n ≤ length w) where
   unfolding without moved_down
   without_past p h =
       getd_put_after mid (at + n) zeros fits p (omega (arith, long_zeros)) ∙ getd_put_after w at down (omega (arith, long_down)) p (omega (arith, long_down))
+
+  -- as the code has it: words copied down within the table, then zeros
+  pub moved : paste w at (drop (at + k) w) (at + k + n - (at + k)) ≡ moved_down at k n w
+  unfolding moved_down put
+  moved =
+      let e : at + k + n - (at + k) ≡ n = omega arith in
+      rw (e, long_down) refl

@@ -1,8 +1,9 @@
-use Rattle.wire.proofs.Filling.{read_none, read_more}
+use Rattle.lists.proofs.Kit.{arith}
+use Rattle.wire.proofs.Filling.{words_read}
+use Rattle.std.proofs.Common.{length-take-le}
 use Rattle.wire.proofs.read_words.Goals as goal
 
-pub loop-i-init : goal.loop-i-init
-loop-i-init c = read_none _ _ _ c.requires.1
-
-pub loop-i-preserved : goal.loop-i-preserved
-loop-i-preserved c = rw c.read_word.ensures (read_more _ _ _ _ _ c.loop-i.invariant c.loop-i-test.true)
+pub returns : goal.returns
+returns c =
+    let whole = length-take-le c.args.n c.args.words.now c.requires.1 in
+    words_read _ _ _ _ c.loop-i.i (omega (arith, whole, c.loop-i-test.false)) (omega (arith, whole, c.loop-i.auto.word-items)) c.loop-i.invariant

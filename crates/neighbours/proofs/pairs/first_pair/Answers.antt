@@ -1,12 +1,10 @@
-use Rattle.lists.proofs.Kit.{refl, rules}
-use Rattle.neighbours.proofs.Finding.{pair_at, pair_next, pair_none}
+use Rattle.lists.proofs.Kit.{rules}
+use Rattle.sections.specs.Sections.{sections}
+use Rattle.neighbours.proofs.Finding.{pair_at, pair_found}
+use Rattle.neighbours.proofs.Ranges.{found_map}
 use Rattle.neighbours.proofs.pairs.first_pair.Goals as goal
 
-pub returns-then-j-n : goal.returns-then-j-n
-returns-then-j-n c = pair_at _ _ _ c.loop-i.invariant _ _ (search rules) c.first_joining-j.ensures c.if-j-n.true refl
-
-pub loop-i-preserved : goal.loop-i-preserved
-loop-i-preserved c = pair_next _ _ _ c.loop-i.invariant _ (search rules) c.first_joining-j.ensures c.if-j-n.false
-
 pub returns : goal.returns
-returns c = pair_none _ _ _ c.loop-i.invariant _ c.loop-i-test.false refl
+returns c =
+    pair_found _ _ _ c.requires.1 _
+    (found_map (pair_at (sections c.args.words.now c.args.n) c.args.n) _ (λ i a q k. (search rules, search rules)) _ _ c.find_map.ensures.runs)

@@ -3,6 +3,3 @@ use Rattle.placing.proofs.place.last_fitting.Given as goal
 
 abbrev pub invariant-loop-i : goal.invariant-loop-i
 invariant-loop-i l = Tried l.count l.incoming l.words l.i
-
-abbrev pub decreases-loop-i : goal.decreases-loop-i
-decreases-loop-i l = l.i

@@ -1,16 +1,13 @@
-use Rattle.lists.proofs.Kit.{arith}
-use Rattle.plan_list.proofs.Reaching.{reached_on}
-use Rattle.plan_list.proofs.Reaching.{reached_start, reached_next, reached_end}
+use Rattle.std.proofs.Common.{not, eqb, length, rules, tests}
+use Rattle.std.proofs.lemmas.Iterator.Consumers.{count_from_yields_List, YieldsList-from_filter, YieldsList-at}
+use Rattle.std.proofs.lemmas.Iterator.Splits.{YieldsList-from_slice_split}
+use Rattle.plan_list.specs.Words.{is_blank}
 use Rattle.plan_list.proofs.line_words.count_words.Goals as goal
 
-pub loop-at-init : goal.loop-at-init
-loop-at-init c = reached_start _ _ c.first_of-at.ensures.0 c.first_of-at.ensures.1
-
-pub loop-at-smaller : goal.loop-at-smaller
-loop-at-smaller c = let o = reached_on _ _ _ c.loop-at.invariant _ c.loop-at-test.true c.next_start-next.ensures.0 in omega (arith, o, c.loop-at-test.true)
-
-pub loop-at-preserved : goal.loop-at-preserved
-loop-at-preserved c = reached_next _ _ _ c.loop-at.invariant _ c.loop-at-test.true c.next_start-next.ensures.0 c.next_start-next.ensures.1
-
 pub returns : goal.returns
-returns c = reached_end _ _ _ c.loop-at.invariant c.loop-at-test.false
+returns c =
+    count_from_yields_List _ _ c.count.ensures.ran
+    (YieldsList-from_filter _ (λ w. not (eqb (length w) 0))
+    (YieldsList-at c.filter.ensures.source
+    (YieldsList-from_slice_split _ is_blank c.args.line.now c.split.ensures.rest c.split.ensures.done c.split.ensures.closure (λ x b q k. search (rules, tests))))
+    c.filter.ensures.closure (λ x b q k. search (rules, tests)))

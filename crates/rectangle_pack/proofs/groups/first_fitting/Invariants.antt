@@ -6,5 +6,5 @@ use Rattle.packing_rules.specs.Rules.{is_whole}
 use Rattle.packing_rules.specs.Packing.{rects_at, trial_in}
 use Rattle.rectangle_pack.proofs.groups.first_fitting.Given as goal
 
-abbrev pub invariant-loop-t : goal.invariant-loop-t
-invariant-loop-t l = (l.t ≤ length l.order) × (length l.copy ≡ length l.initial.copy) × (length l.locations ≡ length l.initial.locations) × None l.t (λ i. is_whole (trial_in (rects_at (rect_at l.rects) l.group) (free_of l.chambers l.store) (get_or l.order i 0)))
+abbrev pub invariant-loop-k : goal.invariant-loop-k
+invariant-loop-k l = (l.k-index ≤ length l.order) × (length l.copy ≡ length l.initial.copy) × (length l.locations ≡ length l.initial.locations) × None l.k-index (λ i. is_whole (trial_in (rects_at (rect_at l.rects) l.group) (free_of l.chambers l.store) (get_or l.order i 0)))

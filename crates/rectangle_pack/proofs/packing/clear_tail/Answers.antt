@@ -4,4 +4,6 @@ use Rattle.sections.specs.Leaning.{Cleared}
 use Rattle.rectangle_pack.proofs.packing.clear_tail.Goals as goal
 
 pub returns : goal.returns
-returns c = lend (Cleared _) _ _ _ c.clear_past.auto.words (rw c.read-bin.ensures at c.clear_past.ensures) (search rules)
+returns c =
+    rw c.part.ensures
+    (lend (Cleared _) _ _ _ (rw c.part.ensures at c.clear_past.auto.words) (rw (c.part.ensures, c.read-bin.ensures) at c.clear_past.ensures) (search rules))

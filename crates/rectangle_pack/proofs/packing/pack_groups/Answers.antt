@@ -1,49 +1,61 @@
 use Rattle.lists.proofs.Kit.{rules, refl, ◌∙◌, arith}
-use Rattle.rectangle_pack.proofs.Running.{running_none, order_still, lead_below, group_some, group_ready, listed_part, group_listed, group_few, group_seats, record_there, running_more, running_refused, running_all}
+use Rattle.rectangle_pack.proofs.Running.{lead_here, running_none, order_still, lead_small, group_some, group_ready, group_listed, group_few, group_seats, record_there, running_more, running_refused, running_all, leads_long}
 use Rattle.rectangle_pack.proofs.packing.pack_groups.Goals as goal
 
-pub loop-g-init : goal.loop-g-init
-loop-g-init c =
-    (running_none _ _ _ _ _ c.requires.0, refl, search rules, search rules, search rules)
+pub loop-lead-init : goal.loop-lead-init
+loop-lead-init c = record { running = running_none _ _ _ _ _ c.requires.0; copy_long = refl; locations_long = refl }
 
-pub members_of-m-requires : goal.members_of-m-requires
-members_of-m-requires c =
-    (c.requires.1.long, lead_below _ _ _ _ _ _ _ c.requires.4 c.requires.3 _ _ _ _ c.loop-g.invariant.0 c.loop-g-test.true, omega (arith, c.requires.1.few, c.loop-g.invariant.2))
+pub members_of-requires : goal.members_of-requires
+members_of-requires c = (c.requires.1.long, lead_small _ _ _ c.requires.4 _ c.loop-lead-test.true _, c.requires.1.few)
 
-pub pack_group-fit-requires : goal.pack_group-fit-requires
-pack_group-fit-requires c =
-    let is = listed_part _ _ _ _ c.members_of-m.ensures in (
-      group_ready _ _ _ _ _ _ _ c.requires.4 c.requires.3 _ _ _ _ c.loop-g.invariant.0 c.loop-g-test.true _ is,
-      order_still _ _ _ _ _ _ _ c.requires.4 c.requires.3 _ _ _ _ c.loop-g.invariant.0,
+pub pack_group-requires : goal.pack_group-requires
+pack_group-requires c =
+    let s = c.loop-lead.invariant in
+    let at = lead_here _ _ _ c.requires.4 _ c.loop-lead-test.true _ in
+    let is = c.as_slice-members.ensures.value ∙ c.members_of.ensures in (
+      group_ready _ _ _ _ _ _ c.requires.3 _ _ _ _ s.running at.0 _ at.1 _ is,
+      order_still _ _ _ _ _ _ c.requires.3 _ _ _ _ s.running,
       record {
-        some = group_some _ _ _ _ _ _ _ c.requires.4 c.requires.3 _ _ _ _ c.loop-g.invariant.0 c.loop-g-test.true _ is;
-        listed = group_listed _ _ _ _ c.members_of-m.ensures _ _ is (search rules);
-        copy_long = search rules;
-        table_long = omega (arith, group_few _ _ _ _ c.members_of-m.ensures _ is, c.requires.1.few, c.loop-g.invariant.4);
+        some = group_some _ _ _ at.0 _ at.1 _ is;
+        listed = group_listed _ _ _ _ is _ (omega arith);
+        copy_long = s.copy_long;
+        table_long = omega (arith, group_few _ _ _ _ is, c.requires.1.few, s.locations_long);
       },
     )
 
-pub overflow_cast-lead : goal.overflow_cast-lead
-overflow_cast-lead c =
-    omega (arith, lead_below _ _ _ _ _ _ _ c.requires.4 c.requires.3 _ _ _ _ c.loop-g.invariant.0 c.loop-g-test.true, c.requires.1.few)
+pub overflow_cast-result : goal.overflow_cast-result
+overflow_cast-result c = omega (arith, lead_small _ _ _ c.requires.4 _ c.loop-lead-test.true, c.requires.1.few)
 
 pub returns-in_default : goal.returns-in_default
 returns-in_default c =
-    running_refused _ _ _ _ _ _ _ c.requires.4 c.requires.3 _ _ _ _ c.loop-g.invariant.0 c.loop-g-test.true _ (listed_part _ _ _ _ c.members_of-m.ensures) _ _ _ _ _ _ c.in_default.is c.new.ensures c.pack_group-fit.ensures
+    let at = lead_here _ _ _ c.requires.4 _ c.loop-lead-test.true _ in
+    running_refused _ _ _ _ _ _ c.requires.3 _ _ _ _ c.loop-lead.invariant.running at.0 _ at.1 _ (c.as_slice-members.ensures.value ∙ c.members_of.ensures) _ _ _
+    refl c.in_default.ensures
 
 pub read-bin-requires : goal.read-bin-requires
 read-bin-requires c =
-    record_there _ _ _ _ _ _ _ c.requires.4 c.requires.3 _ _ _ _ c.loop-g.invariant.0 c.loop-g-test.true _ (listed_part _ _ _ _ c.members_of-m.ensures) _ _ _ _ _ _ c.in-In.is c.pack_group-fit.ensures
+    let at = lead_here _ _ _ c.requires.4 _ c.loop-lead-test.true _ in
+    record_there _ _ _ _ _ _ c.requires.3 _ _ _ _ c.loop-lead.invariant.running at.0 _ at.1 _ (c.as_slice-members.ensures.value ∙ c.members_of.ensures) _ _ _ _
+    c.in-Some.ensures
 
 pub seat_group-requires : goal.seat_group-requires
 seat_group-requires c =
-    let is = listed_part _ _ _ _ c.members_of-m.ensures in
-    (group_seats _ _ _ _ c.members_of-m.ensures _ _ is (omega (arith, c.loop-g.invariant.0.long, c.requires.2)), omega (arith, group_few _ _ _ _ c.members_of-m.ensures _ is, c.requires.1.few, c.pack_group-fit.auto.locations ∙ c.loop-g.invariant.4))
+    let is = c.as_slice-members.ensures.value ∙ c.members_of.ensures in (
+      group_seats _ _ _ _ is _ (omega (arith, c.loop-lead.invariant.running.long, c.requires.2)),
+      omega (arith, group_few _ _ _ _ is, c.requires.1.few, c.pack_group.auto.locations, c.loop-lead.invariant.locations_long),
+    )
 
-pub loop-g-preserved : goal.loop-g-preserved
-loop-g-preserved c =
-    (running_more _ _ _ _ _ _ _ c.requires.4 c.requires.3 _ _ _ _ c.loop-g.invariant.0 c.loop-g-test.true _ (listed_part _ _ _ _ c.members_of-m.ensures) _ _ _ _ _ _ c.in-In.is c.pack_group-fit.ensures _ _ c.read-bin.ensures (search rules) c.seat_group.ensures, search rules, c.members_of-m.auto.out ∙ c.loop-g.invariant.2, c.pack_group-fit.auto.copy ∙ c.loop-g.invariant.3, c.pack_group-fit.auto.locations ∙ c.loop-g.invariant.4)
+pub loop-lead-preserved : goal.loop-lead-preserved
+loop-lead-preserved c =
+    let s = c.loop-lead.invariant in
+    let at = lead_here _ _ _ c.requires.4 _ c.loop-lead-test.true _ in
+    record {
+      running = running_more _ _ _ _ _ _ c.requires.3 _ _ _ _ s.running at.0 _ at.1 _ (c.as_slice-members.ensures.value ∙ c.members_of.ensures) _ _ _ _
+          c.in-Some.ensures _ _ c.read-bin.ensures (search rules) c.seat_group.ensures;
+      copy_long = c.pack_group.auto.copy ∙ s.copy_long;
+      locations_long = c.pack_group.auto.locations ∙ s.locations_long;
+    }
 
 pub returns : goal.returns
 returns c =
-    running_all _ _ _ _ _ _ _ c.requires.4 c.requires.3 _ _ _ _ c.loop-g.invariant.0 _ c.loop-g-test.false c.new-2.ensures
+    running_all _ _ _ _ _ _ c.requires.3 _ _ _ _ c.loop-lead.invariant.running _ (omega (arith, leads_long _ _ _ c.requires.4)) refl

@@ -1,12 +1,12 @@
-use Rattle.lists.proofs.Kit.{arith, rules}
-use Rattle.lists.proofs.Lowests.{lowest_at, lowest-next, lowest_over}
+use Rattle.lists.proofs.Kit.{true, false, ◌≡◌, rules}
+use borrow.Author.Tests.{tests}
+use Rattle.std.proofs.lemmas.Iterator.{first_from_Range}
+use Rattle.sections.specs.Inside.{shares_at}
+use Rattle.sections.proofs.Searching.{found_from}
 use Rattle.sections.proofs.near.first_from.Goals as goal
 
-pub returns-then-shares : goal.returns-then-shares
-returns-then-shares c = lowest_at _ _ _ (search rules) (search rules) (cc)
-
-pub loop-k-preserved : goal.loop-k-preserved
-loop-k-preserved c = omega (arith, lowest-next _ _ _ c.loop-k.invariant (search rules) (cc))
-
 pub returns : goal.returns
-returns c = lowest_over _ _ _ c.loop-k.invariant (search rules)
+returns c =
+    let f = shares_at c.args.other c.args.words.now in
+    found_from c.args.end c.args.i f c.requires.2 _
+    (first_from_Range _ _ _ _ (λ k. f k ≡ true) (λ k. f k ≡ false) c.find.ensures.ran (λ k q p. search (rules, tests)) (λ k q p. (search (rules, tests), search (rules, tests))))

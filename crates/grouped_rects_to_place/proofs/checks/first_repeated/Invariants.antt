@@ -1,8 +1,0 @@
-use Rattle.lists.proofs.Kit.{◌≤◌}
-use Rattle.lists.specs.Lowest.{lowest}
-use Rattle.grouped_rects_to_place.specs.Rect.{rect_at}
-use Rattle.grouped_rects_to_place.specs.Checks.{repeated_id}
-use Rattle.grouped_rects_to_place.proofs.checks.first_repeated.Given as goal
-
-abbrev pub invariant-loop-i : goal.invariant-loop-i
-invariant-loop-i l = (l.i ≤ l.n) × (l.i ≤ lowest l.n (repeated_id (rect_at l.rects)))
