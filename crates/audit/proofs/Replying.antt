@@ -4,7 +4,7 @@ use mathlib.Core.Path.{◌≡◌, refl, sym, ap, ◌∙◌, subst}
 use mathlib.Core.List.{List, [], ◌++◌}
 use mathlib.Core.Bool.{Bool, true, false, not, ◌&&◌, ◌||◌}
 use native.Mathlib.Omega.{arith}
-use borrow.Author.Tests.{lt-ltb, le-ltb, ltb-true, leb-true, eqb-true, not-false}
+use borrow.Author.Tests.{lt-ltb, le-ltb, ltb-true, leb-true, eqb-true, eq-eqb, ne_eqb, not-false}
 use lib.Dec.{eqb, ltb, leb}
 use lib.ListN.{length, take, drop}
 use Rattle.lists.specs.Lowest.{lowest}
@@ -17,11 +17,12 @@ use Rattle.replies.specs.declared.reply.Reply.{Reply}
 use Rattle.sections.specs.declared.common_reply.CommonReply.{CommonReply}
 use Rattle.bin_section.specs.Sides.{volume_of, sides_ok}
 use Rattle.replies.specs.Replies.{reply, in_order}
+use Rattle.sections.specs.Common.{common_reply, plain_reply, earliest_common}
 use Rattle.replies.proofs.Ladders.{fires, passes, past, past_all, of_each}
 use Rattle.bin_section.specs.Inside.{outside}
 use Rattle.cells.specs.Whole.{box_at, volumes}
 use Rattle.sections.specs.Inside.{shares_earlier}
-use Rattle.audit.specs.Audit.{audit_boxes, box_lists_ok, audit_checks, audit_reply, audit_answer, shown_of, audited_with, audit_of}
+use Rattle.audit.specs.Audit.{audit_boxes, box_lists_ok, audit_checks, audit_reply, audit_common, audit_answer, shown_of, audited_with, audit_of}
 use Rattle.audit.specs.Leaning.{NamesOneOf, faulty_box}
 use Rattle.audit.proofs.TwoLists.{boxes_length}
 
@@ -108,34 +109,44 @@ module _ (whd : WidthHeightDepth) (placed free : List ℕ) (r : Reply) (e : r �
   pub shared_box : r.number ≡ 17 → r.detail < length placed / 6 + length free / 6
   shared_box h = (named_box (rw h refl)).1
 
+  -- the reply with its common box
+  pub answer_plain : (a : CommonReply) → (r.number ≡ 17 → ⊥) → a ≡ plain_reply r → a ≡ audit_answer whd placed free
+  unfolding audit_answer audit_common
+  answer_plain a ne p = rw (p, ← e, ne_eqb r.number 17 ne)
+
+  pub answer_common : (a : CommonReply) → r.number ≡ 17 → (c : Option BinSection) → c ≡ earliest_common (audit_boxes placed free) r.detail → a ≡ common_reply r c → a ≡ audit_answer whd placed free
+  unfolding audit_answer audit_common
+  answer_common a h c f p = rw (p, f, ← e, eq-eqb r.number 17 h)
+
 -- what a refusal hands on is of a box that is there
 pub names_one : (whd : WidthHeightDepth) (placed free : List ℕ) (all : List BinSection) (r : Reply) → r ≡ audit_reply whd placed free → all ≡ audit_boxes placed free → NamesOneOf all r
 names_one whd placed free all r e view n = omega (arith, shared_box whd placed free r e n, boxes_length placed free, ap length view)
 
 -- ---- the parts of an audit, by the index of the box that its reply names
 
-module _ (whd : WidthHeightDepth) (placed free : List ℕ) (a : CommonReply) (e : a ≡ audit_answer whd placed free) (o : Option ℕ) (f : o ≡ faulty_box a.reply) where
-  audit-replied : a.reply ≡ audit_reply whd placed free
+module _ (whd : WidthHeightDepth) (placed free : List ℕ) (a : CommonReply) (e : a ≡ audit_answer whd placed free) where
+  pub audit-replied : a.reply ≡ audit_reply whd placed free
   unfolding audit_answer
   audit-replied = ap (λ (q : CommonReply). q.reply) e
 
-  named_at : (i : ℕ) → o ≡ Some i → (names_box a.reply ≡ true) × (a.reply.detail ≡ i)
-  named_at i h = cond_some _ _ _ (sym f ∙ h)
+  module _ (o : Option ℕ) (f : o ≡ faulty_box a.reply) where
+    named_at : (i : ℕ) → o ≡ Some i → (names_box a.reply ≡ true) × (a.reply.detail ≡ i)
+    named_at i h = cond_some _ _ _ (sym f ∙ h)
 
-  pub audit_at : (i : ℕ) → o ≡ Some i → a.reply.detail ≡ i
-  audit_at i h = (named_at i h).1
+    pub audit_at : (i : ℕ) → o ≡ Some i → a.reply.detail ≡ i
+    audit_at i h = (named_at i h).1
 
-  pub audit_lies : (i : ℕ) → o ≡ Some i → (length placed % 6 ≡ 0) × (i < length placed / 6 + length free / 6)
-  audit_lies i h = let n = named_at i h in rw n.1 at (named_box whd placed free a.reply audit-replied n.0)
+    pub audit_lies : (i : ℕ) → o ≡ Some i → (length placed % 6 ≡ 0) × (i < length placed / 6 + length free / 6)
+    audit_lies i h = let n = named_at i h in rw n.1 at (named_box whd placed free a.reply audit-replied n.0)
 
-  pub audit_named : (words : List ℕ) (i : ℕ) → o ≡ Some i → words ≡ take 6 (drop (i * 6) (placed ++ free)) → audited_with a words ≡ audit_of whd placed free
-  unfolding audit_of shown_of
-  audit_named words i h w = let n = named_at i h in rw (← e, ← audit-replied, n.0, n.1, w) refl
+    pub audit_named : (words : List ℕ) (i : ℕ) → o ≡ Some i → words ≡ take 6 (drop (i * 6) (placed ++ free)) → audited_with a words ≡ audit_of whd placed free
+    unfolding audit_of shown_of
+    audit_named words i h w = let n = named_at i h in rw (← e, ← audit-replied, n.0, n.1, w) refl
 
-  pub audit_silent : o ≡ None → audited_with a [] ≡ audit_of whd placed free
-  unfolding audit_of shown_of
-  audit_silent h = go (names_box a.reply) refl
-    where
-      go : (t : Bool) → names_box a.reply ≡ t → audited_with a [] ≡ audit_of whd placed free
-      go true t = absurd (none-some a.reply.detail (sym h ∙ f ∙ rw t))
-      go false t = rw (← e, ← audit-replied, t) refl
+    pub audit_silent : o ≡ None → audited_with a [] ≡ audit_of whd placed free
+    unfolding audit_of shown_of
+    audit_silent h = go (names_box a.reply) refl
+      where
+        go : (t : Bool) → names_box a.reply ≡ t → audited_with a [] ≡ audit_of whd placed free
+        go true t = absurd (none-some a.reply.detail (sym h ∙ f ∙ rw t))
+        go false t = rw (← e, ← audit-replied, t) refl

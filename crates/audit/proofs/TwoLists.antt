@@ -2,13 +2,15 @@
 use Prim.Native.Nat.{ℕ, ◌+◌, ◌*◌, ◌-◌, ◌/◌, ◌%◌, ◌≤◌, ◌<◌}
 use mathlib.Core.Path.{◌≡◌, refl, sym, ap, ap₂, ◌∙◌, subst}
 use mathlib.Core.List.{List, [], ◌++◌}
-use mathlib.Core.Bool.{Bool, true, false}
+use mathlib.Core.Bool.{Bool, true, false, ◌||◌}
 use native.Mathlib.Decide.{dec_lt}
 use native.Mathlib.Omega.{arith}
 use lib.ListN.{length, get_or, take, drop, length-append, get_or-append, length-drop}
 use lib.Seq.{ext_get_or, length-take-le, get_or-take, get_or-append-add, take-append-le, drop-append-le, drop-append-add}
-use Rattle.lists.specs.Lowest.{lowest, any_below}
-use Rattle.lists.proofs.Lowests.{lowest_fires, none_below_lowest, any_lowest, any_none}
+use Rattle.lists.specs.Lowest.{lowest, any_below, lowest_index}
+use Rattle.lists.proofs.Flags.{true_false}
+use Rattle.lists.proofs.Lowests.{lowest_fires, none_below_lowest, any_lowest, any_none, lowest_first, lowest_second, any_same, any_parts}
+use Rattle.lists.proofs.LowestIndex.{index_here, index_nowhere, index_some, index_none, index_any}
 use Rattle.bin_section.specs.declared.width_height_depth.WidthHeightDepth.{WidthHeightDepth}
 use Rattle.bin_section.specs.declared.section.BinSection.{BinSection}
 use Rattle.std.proofs.Common.{Option, Some, None, MatchOption, is_some, min, append-nil, ltb-true}
@@ -18,7 +20,7 @@ use Rattle.bin_section.specs.Section.{section_at, zero_section, section_words}
 use Rattle.bin_section.specs.Overlap.{overlaps_of}
 use Rattle.cells.specs.Whole.{box_at, Inside, AllInside, volumes}
 use Rattle.sections.specs.Sections.{sections}
-use Rattle.sections.specs.Inside.{shares_earlier}
+use Rattle.sections.specs.Inside.{shares_at, shares_earlier}
 use Rattle.sections.specs.Common.{first_common, earliest_common}
 use Rattle.sections.specs.Leaning.{AllSmall}
 use Rattle.sections.proofs.Reading.{length-sections, getd_sections, take-sections}
@@ -38,6 +40,40 @@ inside_small whd b c e p s = rw e (record { width_small = omega arith; height_sm
 none_of : (w : List ℕ) → [] ≡ sections w 0
 unfolding sections tab
 none_of w = refl
+
+-- ---- a search in two parts
+
+-- what is found at the lowest index, and what where there is none
+index_of : (n i : ℕ) (f : ℕ → Bool) → i ≡ lowest n f → i < n → Some i ≡ lowest_index n f
+index_of n i f e h = sym (index_here n i f (record { at = λ k l. (none_below_lowest n f).at k (omega arith) }) h (ap f e ∙ lowest_fires n f (omega arith)))
+
+index_end_of : (n : ℕ) (f : ℕ → Bool) → n ≡ lowest n f → None ≡ lowest_index n f
+index_end_of n f e = sym (index_nowhere n f (record { at = λ k l. (none_below_lowest n f).at k (omega arith) }))
+
+module _ (m n all : ℕ) (sum : all ≡ m + n) (f g t : ℕ → Bool) (same_first : (i : ℕ) → i < m → f i ≡ t i) (same_second : (k : ℕ) → k < n → g k ≡ t (m + k)) where
+  -- the first part has one
+  pub found_first : (r : Option ℕ) → r ≡ lowest_index m f → is_some r ≡ true → r ≡ lowest_index all t
+  found_first None e h = absurd (true_false (sym h))
+  found_first (Some i) e h =
+      let q = index_some m i f (sym e) in
+      index_of all i t (lowest_first m n all sum f g t same_first same_second i (sym q.0) q.1) (omega (arith, q.1))
+
+  -- it has none, and so it is the second's
+  module _ (r : Option ℕ) (found : r ≡ lowest_index m f) (none : is_some r ≡ false) where
+    passed : lowest m f ≡ m
+    passed = go r found none
+      where
+        go : (o : Option ℕ) → o ≡ lowest_index m f → is_some o ≡ false → lowest m f ≡ m
+        go None e h = index_none m f (sym e)
+        go (Some i) e h = absurd (true_false h)
+
+    pub found_nowhere : None ≡ lowest_index n g → None ≡ lowest_index all t
+    found_nowhere q = index_end_of all t (omega (arith, sum, lowest_second m n all sum f g t same_first same_second m (sym passed) (omega arith) n (sym (index_none n g (sym q)))))
+
+    pub found_second : (k : ℕ) → Some k ≡ lowest_index n g → Some (m + k) ≡ lowest_index all t
+    found_second k q =
+        let p = index_some n k g (sym q) in
+        index_of all (m + k) t (lowest_second m n all sum f g t same_first same_second m (sym passed) (omega arith) k (sym p.0)) (omega (arith, p.1))
 
 module _ (placed free : List ℕ) where
   abbrev boxes : List BinSection
@@ -92,6 +128,75 @@ module _ (placed free : List ℕ) where
           sym (words_free i (length placed / 6) whole refl (omega arith))
           ∙ sym (section_layout.written_back free k (omega arith))
           ∙ ap section_words (sym (box_free k (omega arith)) ∙ ap (λ (n : ℕ). box_at boxes n) e)
+
+  -- ---- a search through both lists; `first` is how many boxes the placed one has
+
+  module _ (first : ℕ) (counted : first ≡ length placed / 6) where
+    all_boxes : length boxes ≡ first + length free / 6
+    all_boxes = omega (arith, boxes_length)
+
+    box_second : (k : ℕ) → k < length free / 6 → section_at free k ≡ box_at boxes (first + k)
+    box_second k h = sym (box_free k h) ∙ ap (λ (n : ℕ). box_at boxes (n + k)) (sym counted)
+
+    -- by a test of one box
+    module _ (test : BinSection → Bool) (r : Option ℕ) (found : r ≡ lowest_index first (λ i. test (section_at placed i))) where
+      pub tested_placed : is_some r ≡ true → r ≡ lowest_index (length boxes) (λ i. test (box_at boxes i))
+      tested_placed =
+          found_first first (length free / 6) (length boxes) all_boxes (λ i. test (section_at placed i)) (λ k. test (section_at free k)) (λ i. test (box_at boxes i))
+          (λ i l. ap test (sym (box_placed i (omega arith)))) (λ k l. ap test (box_second k l)) r found
+
+      pub tested_nowhere : is_some r ≡ false → (n : ℕ) → n ≡ length free / 6 → None ≡ lowest_index n (λ k. test (section_at free k)) → None ≡ lowest_index (length boxes) (λ i. test (box_at boxes i))
+      tested_nowhere h n e =
+          found_nowhere first n (length boxes) (omega (arith, boxes_length)) (λ i. test (section_at placed i)) (λ k. test (section_at free k)) (λ i. test (box_at boxes i))
+          (λ i l. ap test (sym (box_placed i (omega arith)))) (λ k l. ap test (box_second k (omega arith))) r found h
+
+      pub tested_free : is_some r ≡ false → (n : ℕ) → n ≡ length free / 6 → (k : ℕ) → Some k ≡ lowest_index n (λ k. test (section_at free k)) → Some (first + k) ≡ lowest_index (length boxes) (λ i. test (box_at boxes i))
+      tested_free h n e =
+          found_second first n (length boxes) (omega (arith, boxes_length)) (λ i. test (section_at placed i)) (λ k. test (section_at free k)) (λ i. test (box_at boxes i))
+          (λ i l. ap test (sym (box_placed i (omega arith)))) (λ k l. ap test (box_second k (omega arith))) r found h
+
+    -- for a box that shares a cell with an earlier one
+    same_earlier : (i : ℕ) → i < first → shares_earlier (sections placed first) i ≡ shares_earlier boxes i
+    unfolding shares_earlier
+    same_earlier i h =
+        any_same i _ _
+        (λ k l. ap₂ overlaps_of (getd_sections placed first k zero_section (omega arith) ∙ sym (box_placed k (omega arith)))
+        (getd_sections placed first i zero_section h ∙ sym (box_placed i (omega arith))))
+
+    module _ (r : Option ℕ) (found : r ≡ lowest_index first (shares_earlier (sections placed first))) where
+      pub shared_placed : is_some r ≡ true → r ≡ lowest_index (length boxes) (shares_earlier boxes)
+      shared_placed =
+          found_first first (length free / 6) (length boxes) all_boxes (shares_earlier (sections placed first)) (λ k. shares_earlier boxes (first + k)) (shares_earlier boxes)
+          same_earlier (λ k l. refl) r found
+
+      pub shared_nowhere : is_some r ≡ false → None ≡ lowest_index (length free / 6) (λ k. shares_earlier boxes (length placed / 6 + k)) → None ≡ lowest_index (length boxes) (shares_earlier boxes)
+      shared_nowhere =
+          found_nowhere first (length free / 6) (length boxes) all_boxes (shares_earlier (sections placed first)) (λ k. shares_earlier boxes (length placed / 6 + k)) (shares_earlier boxes)
+          same_earlier (λ k l. ap (λ (n : ℕ). shares_earlier boxes (n + k)) (sym counted)) r found
+
+      pub shared_free : is_some r ≡ false → (k : ℕ) → Some k ≡ lowest_index (length free / 6) (λ k. shares_earlier boxes (length placed / 6 + k)) → Some (first + k) ≡ lowest_index (length boxes) (shares_earlier boxes)
+      shared_free =
+          found_second first (length free / 6) (length boxes) all_boxes (shares_earlier (sections placed first)) (λ k. shares_earlier boxes (length placed / 6 + k)) (shares_earlier boxes)
+          same_earlier (λ k l. ap (λ (n : ℕ). shares_earlier boxes (n + k)) (sym counted)) r found
+
+    -- whether the free box at k does: the search among the placed ones comes to r, that among the earlier free ones to s
+    module _ (k : ℕ) (below : k < length free / 6) (b : BinSection) (read : b ≡ section_at free k) (r : Option ℕ) (found : r ≡ lowest_index first (shares_at b placed)) where
+      two_parts : shares_earlier boxes (length placed / 6 + k) ≡ (is_some r || any_below k (shares_at b free))
+      unfolding shares_earlier
+      two_parts =
+          let at : box_at boxes (length placed / 6 + k) ≡ b = box_free k below ∙ sym read in
+          any_parts (length placed / 6) k (λ i. overlaps_of (box_at boxes i) (box_at boxes (length placed / 6 + k)))
+          ∙ ap₂ ◌||◌
+          (any_same (length placed / 6) _ (shares_at b placed) (λ i l. ap₂ overlaps_of (box_placed i l) at)
+          ∙ ap (λ (n : ℕ). any_below n (shares_at b placed)) (sym counted)
+          ∙ sym (index_any first (shares_at b placed)) ∙ ap is_some (sym found))
+          (any_same k _ (shares_at b free) (λ i l. ap₂ overlaps_of (box_free i (omega arith)) at))
+
+      pub shares_placed : is_some r ≡ true → true ≡ shares_earlier boxes (length placed / 6 + k)
+      shares_placed h = sym (two_parts ∙ rw h refl)
+
+      pub shares_free : is_some r ≡ false → (s : Option ℕ) → s ≡ lowest_index k (shares_at b free) → is_some s ≡ shares_earlier boxes (length placed / 6 + k)
+      shares_free h s e = sym (two_parts ∙ rw (h, e) (sym (index_any k (shares_at b free))))
 
   -- ---- the boxes before an index, and the common box with the earliest of them
 

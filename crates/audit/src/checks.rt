@@ -12,10 +12,10 @@ ghost use Rattle.sections.specs.Common.{earliest_common};
 ghost use Rattle.audit.specs.Audit.{audit_boxes, audit_common};
 ghost use Rattle.audit.specs.Leaning.{NamesOneOf};
 
-use bin_section::{BinSection, WidthHeightDepth, inside};
+use bin_section::{BinSection, WidthHeightDepth};
 use lists::lowest_index;
 use replies::Refusal;
-use sections::{first_common, sum_of_volumes};
+use sections::{first_common, first_sharing, sum_of_volumes};
 use std::marker::Model;
 use words::Record;
 
@@ -24,6 +24,23 @@ pub fn boxes_in(words: &[u32]) -> usize
     ensures { result ≡ length words.now / 6 }
 {
     words.len() / BinSection::WORDS
+}
+
+// Whether free box k shares a cell with a placed one or an earlier free one.
+fn free_shares(placed: &[u32], free: &[u32], k: usize) -> bool
+    requires { k < length free.now / 6 }
+    ensures { result ≡ shares_earlier (audit_boxes placed.now free.now) (length placed.now / 6 + k) }
+{
+    let section = BinSection::read(free, k);
+    first_sharing(placed, boxes_in(placed), section).is_some()
+        || first_sharing(free, k, section).is_some()
+}
+
+// The lowest such free box. Each list is searched by itself: to look each box up in both costs an audit of few boxes half its time again.
+fn first_free_shared(placed: &[u32], free: &[u32]) -> Option<usize>
+    ensures { result ≡ lowest_index (length free.now / 6) (λ k. shares_earlier (audit_boxes placed.now free.now) (length placed.now / 6 + k)) }
+{
+    lowest_index(boxes_in(free), |k| free_shares(placed, free, k))
 }
 
 // The boxes of both lists: indices run through the placed list, then the free list.
@@ -70,7 +87,13 @@ impl<'a> Boxes<'a> {
     pub fn first_outside(&self, whd: WidthHeightDepth) -> Option<usize>
         ensures { result ≡ lowest_index (length self.now) (λ i. outside whd (box_at self.now i)) }
     {
-        lowest_index(self.count(), |i| !inside(self.at(i), whd))
+        let first = boxes_in(self.placed);
+        let among_placed = sections::first_outside(self.placed, first, whd);
+        if among_placed.is_some() {
+            return among_placed;
+        }
+        let out = sections::first_outside(self.free, boxes_in(self.free), whd)?;
+        Some(first + out)
     }
 
     // The common box of box j and the earliest box that it meets. Those before it are looked through, the placed list first.
@@ -98,11 +121,16 @@ impl<'a> Boxes<'a> {
     }
 
     // The lowest box that shares a cell with an earlier one.
-    #[tactic(auto, using(crate::proofs::TwoLists::earliest_is))]
     pub fn first_shared(&self) -> Option<usize>
         ensures { result ≡ lowest_index (length self.now) (shares_earlier self.now) }
     {
-        lowest_index(self.count(), |j| self.earliest_common(j).is_some())
+        let first = boxes_in(self.placed);
+        let among_placed = sections::first_shared(self.placed, first);
+        if among_placed.is_some() {
+            return among_placed;
+        }
+        let shared = first_free_shared(self.placed, self.free)?;
+        Some(first + shared)
     }
 
     // Whether the volumes of boxes that lie inside sum to the chamber's. The sum of 1,024 of them fits 64 bits.

@@ -16,7 +16,7 @@ use replies::Refusal;
 use sections::CommonRefusal;
 
 // "at most 1,024 boxes together"
-const MOST_BOXES: usize = 1024;
+pub const MOST_BOXES: usize = 1024;
 
 // Of the two lists as the caller lends them: Boxes is seen as whole boxes, and knows no words that are left over and no place in memory.
 #[tactic(auto, unfolding(crate::specs::Audit::box_lists_ok))]

@@ -1,2 +1,3 @@
 pub mod Replying
 pub mod Short
+pub mod Writing

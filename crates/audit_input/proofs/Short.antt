@@ -8,7 +8,6 @@ use borrow.Author.Tests.{ltb-true, not-false}
 use lib.Dec.{eqb, ltb}
 use lib.ListN.{length, length-append}
 use Rattle.std.specs.Prelude.{codes}
-use Rattle.std.proofs.lemmas.Fmt.{length-decimal-le}
 use Rattle.replies.specs.declared.reply.Reply.{Reply}
 use Rattle.replies.specs.Replies.{reply}
 use Rattle.replies.proofs.Ladders.{of_each}
@@ -18,12 +17,8 @@ use Rattle.audit.proofs.TwoLists.{boxes_length}
 use Rattle.audit.proofs.Replying.{box_lengths}
 use Rattle.box_input.specs.Input.{input_chamber, input_placed, input_free, is_input}
 use Rattle.text.specs.Decimal.{decimal}
-use Rattle.text.proofs.Displaying.{decimal_std}
+use Rattle.text.proofs.Decimals.{decimal_most}
 use Rattle.audit_input.specs.Line.{name_of, index_of, input_reply, line_for, line_of}
-
--- ten digits hold a 32-bit number
-decimal_most : (n : ℕ) → n < 2 ^ 32 → length (decimal n) ≤ 10
-decimal_most n h = rw (← decimal_std n (omega arith)) (length-decimal-le 10 n (omega arith) (omega arith) (omega arith))
 
 either_most : (t : Bool) (x y : List ℕ) (m : ℕ) → length x ≤ m → length y ≤ m → length (cond t x y) ≤ m
 either_most true x y m p q = p

@@ -1,5 +1,5 @@
 -- "It writes one line: `WHOLE`, `OUTSIDE n`, `SHARED n`, `GAP` for 0, 16, 17, 18 (n the index in decimal), or `BAD` for anything else"
-use Rattle.std.specs.Prelude.{ℕ, List, [], ◌++◌, ◌||◌, cond, eqb, codes}
+use Rattle.std.specs.Prelude.{ℕ, ◌≤◌, ◌≡◌, List, [], ◌++◌, ◌||◌, cond, eqb, codes, length, take, drop}
 use Rattle.replies.specs.declared.reply.Reply.{Reply}
 use Rattle.replies.specs.Replies.{reply}
 use Rattle.audit.specs.Audit.{audit_reply}
@@ -29,3 +29,10 @@ line_for r = name_of r.number ++ index_of r ++ codes "\n"
 -- the line that the program writes to the bytes it reads
 unfoldable pub line_of : List ℕ → List ℕ
 line_of bytes = line_for (input_reply bytes)
+
+-- the first r bytes of the buffer are the line, and the others are as they were
+pub record Wrote (line before after : List ℕ) (r : ℕ) : Type 0 where
+  pub count : r ≡ length line
+  pub room : r ≤ length after
+  pub bytes : take r after ≡ line
+  pub rest : drop r after ≡ drop r before

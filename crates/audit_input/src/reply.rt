@@ -5,7 +5,7 @@ ghost use Rattle.audit_input.specs.Line.{input_reply};
 
 use audit::audit_reply;
 use bin_section::BinSection;
-use box_input::{InputBoxes, read_input};
+use box_input::InputBoxes;
 use replies::Refusal;
 
 // What is no input is refused as a table's wrong length is.
@@ -16,7 +16,7 @@ pub fn reply_of(bytes: &[u8]) -> Result<(), Refusal>
         placed: [0; InputBoxes::WORDS],
         free: [0; InputBoxes::WORDS],
     };
-    let Some(said) = read_input(bytes, &mut boxes) else {
+    let Some(said) = boxes.take(bytes) else {
         return Err(Refusal::BadLength);
     };
     let placed = said.placed * BinSection::WORDS;

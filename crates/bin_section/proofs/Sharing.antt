@@ -3,9 +3,9 @@
 use Prim.Native.Nat.{ℕ, ◌+◌, min, max}
 use mathlib.Core.Path.{◌≡◌, refl, sym, ap, ap₂, ◌∙◌}
 use mathlib.Core.Logic.{◌↔◌}
-use mathlib.Core.Bool.{Bool, true, false, ◌&&◌, cond}
+use mathlib.Core.Bool.{Bool, true, false, not, ◌&&◌, cond}
 use native.Mathlib.Omega.{arith}
-use borrow.Author.Tests.{ltb-true, lt-ltb}
+use borrow.Author.Tests.{ltb-true, lt-ltb, not-true, not-false}
 use lib.Dec.{ltb}
 use Rattle.lists.proofs.Flags.{true_false, and_both, and_first, and_second}
 use Rattle.bin_section.specs.declared.section.BinSection.{BinSection}
@@ -24,6 +24,11 @@ meet_swap o₁ s₁ o₂ s₂ =
     let p : max o₁ o₂ ≡ max o₂ o₁ = omega arith in
     let q : min (o₁ + s₁) (o₂ + s₂) ≡ min (o₂ + s₂) (o₁ + s₁) = omega arith in
     ap₂ ltb p q
+
+-- which numbers lie in the common span
+side_within : (o₁ s₁ o₂ s₂ c : ℕ) → Within (max o₁ o₂) (common_side o₁ s₁ o₂ s₂) c ↔ (Within o₁ s₁ c × Within o₂ s₂ c)
+unfolding common_side
+side_within o₁ s₁ o₂ s₂ c = ((λ p. ((omega arith, omega arith), (omega arith, omega arith))), (λ p. (omega arith, omega arith)))
 
 side_swap : (o₁ s₁ o₂ s₂ : ℕ) → common_side o₂ s₂ o₁ s₁ ≡ common_side o₁ s₁ o₂ s₂
 unfolding common_side
@@ -98,6 +103,10 @@ module _ (a b : BinSection) where
   unfolding common_of
   common_shared h = rw h
 
+  pub common_apart : overlaps_of a b ≡ false → None ≡ common_of a b
+  unfolding common_of
+  common_apart h = rw h
+
   -- what it answers means, in unit cells
   pub common_means : CommonMeans a b (common_of a b)
   unfolding common_of
@@ -111,6 +120,26 @@ module _ (a b : BinSection) where
   pub common_swap : common_of b a ≡ common_of a b
   unfolding common_of
   common_swap = rw (box_swap, overlaps_swap)
+
+  -- ---- tests of the three axes, the first of them made alone
+
+  module _ (p : Bool) (x : p ≡ spans_meet a.x a.whd.width b.x b.whd.width) where
+    pub first_apart : not p ≡ true → None ≡ common_of a b
+    unfolding common_of overlaps_of
+    first_apart h = rw (← x, not-true p h)
+
+    module _ (h : not p ≡ false) (q r : Bool)
+        (y : q ≡ spans_meet a.y a.whd.height b.y b.whd.height)
+        (z : r ≡ spans_meet a.z a.whd.depth b.z b.whd.depth) where
+      rest : overlaps_of a b ≡ (q && r)
+      unfolding overlaps_of
+      rest = rw (← x, not-false p h, ← y, ← z)
+
+      pub rest_apart : not (q && r) ≡ true → None ≡ common_of a b
+      rest_apart n = common_apart (rest ∙ not-true (q && r) n)
+
+      pub rest_meet : not (q && r) ≡ false → overlaps_of a b ≡ true
+      rest_meet n = rest ∙ not-false (q && r) n
 
 -- a common box is told from none
 module _ (a b : BinSection) (c : Option BinSection) (answered : c ≡ common_of a b) where

@@ -82,6 +82,7 @@ module _ (b : List ℕ) (t : Bool) (e : t ≡ is_input b) (h : not t ≡ false) 
 pub record WasRead (b : List ℕ) (said : InputHead) (p f : List ℕ) : Type 0 where
   pub input : is_input b ≡ true
   pub head : said ≡ head_of b
+  pub few_boxes : said.placed + said.free ≤ 1024
   pub placed_words : take (said.placed * 6) p ≡ input_placed b
   pub free_words : take (said.free * 6) f ≡ input_free b
 
@@ -123,6 +124,7 @@ module _ (b p₀ f₀ : List ℕ) where
             record {
               input = h;
               head = s;
+              few_boxes = rw s (few b h);
               placed_words = rw (s, ap (λ (r : InputRead). r.placed) q) (take_at (input_placed b) _ _ (length-words_in (drop 25 b) _));
               free_words = rw (s, ap (λ (r : InputRead). r.free) q) (take_at (input_free b) _ _ (length-words_in _ _));
             }

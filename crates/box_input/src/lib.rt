@@ -1,4 +1,4 @@
-// The input of the programs that are given boxes: a chamber, its placed and its free boxes, in bytes. An input is read whole into two
+// The input of the programs that are given boxes: a chamber, its placed and its free boxes, in bytes. An input is read whole into two lent
 // tables; what is no input leaves them as they are.
 #![tactic(auto)]
 
@@ -38,6 +38,38 @@ impl InputHead {
     pub const MOST: usize = InputHead::HEAD + InputHead::MOST_BOXES * InputHead::BOX;
 }
 
+// The boxes of an input, "placed first".
+fn read_boxes(bytes: &[u8], said: InputHead, placed: &mut [u32], free: &mut [u32])
+    requires size { 25 + (said.placed + said.free) * 24 ≡ length bytes.now }
+    requires few { said.placed + said.free ≤ 1024 }
+    requires room { (6144 ≤ length placed.old) × (6144 ≤ length free.old) }
+    ensures placed_after { placed.new ≡ words_in (drop 25 bytes.now) (said.placed * 6) ++ drop (said.placed * 6) placed.old }
+    ensures free_after { free.new ≡ words_in (drop (25 + said.placed * 24) bytes.now) (said.free * 6) ++ drop (said.free * 6) free.old }
+{
+    wire::read_words(
+        &bytes[InputHead::HEAD..],
+        placed,
+        said.placed * BinSection::WORDS,
+    );
+    let at = InputHead::HEAD + said.placed * InputHead::BOX;
+    wire::read_words(&bytes[at..], free, said.free * BinSection::WORDS);
+}
+
+// Reads an input: the words of its boxes go to the front of the two tables, whose other words stay. Each has room for all boxes.
+#[tactic(auto, using(crate::proofs::Reading::told_long, crate::proofs::Reading::nothing_read))]
+pub fn read_input(bytes: &[u8], placed: &mut [u32], free: &mut [u32]) -> Option<InputHead>
+    requires { (6144 ≤ length placed.old) × (6144 ≤ length free.old) }
+    ensures few { IfSome result (λ said. said.placed + said.free ≤ 1024) }
+    ensures read { input_read result placed.new free.new ≡ input_of bytes.now placed.old free.old }
+{
+    if !is_input(bytes) {
+        return None;
+    }
+    let said = head(bytes);
+    read_boxes(bytes, said, placed, free);
+    Some(said)
+}
+
 // The words of an input's boxes, each list at the front of a table with room for all boxes.
 #[derive(Drop)]
 pub struct InputBoxes {
@@ -49,31 +81,11 @@ impl InputBoxes {
     // The words of a table.
     pub const WORDS: usize = InputHead::MOST_BOXES * BinSection::WORDS;
 
-    // The boxes of an input, "placed first".
-    fn read(&mut self, bytes: &[u8], said: InputHead)
-        requires size { 25 + (said.placed + said.free) * 24 ≡ length bytes.now }
-        requires few { said.placed + said.free ≤ 1024 }
-        ensures placed_after { self.new.placed ≡ words_in (drop 25 bytes.now) (said.placed * 6) ++ drop (said.placed * 6) self.old.placed }
-        ensures free_after { self.new.free ≡ words_in (drop (25 + said.placed * 24) bytes.now) (said.free * 6) ++ drop (said.free * 6) self.old.free }
+    // Reads an input into the two tables.
+    pub fn take(&mut self, bytes: &[u8]) -> Option<InputHead>
+        ensures few { IfSome result (λ said. said.placed + said.free ≤ 1024) }
+        ensures read { input_read result self.new.placed self.new.free ≡ input_of bytes.now self.old.placed self.old.free }
     {
-        let placed = said.placed * BinSection::WORDS;
-        wire::read_words(&bytes[InputHead::HEAD..], &mut self.placed, placed);
-        let at = InputHead::HEAD + said.placed * InputHead::BOX;
-        let free = said.free * BinSection::WORDS;
-        wire::read_words(&bytes[at..], &mut self.free, free);
+        read_input(bytes, &mut self.placed, &mut self.free)
     }
-}
-
-// Reads an input: the words of its boxes go to the front of the two tables, whose other words stay.
-#[tactic(auto, using(crate::proofs::Reading::told_long, crate::proofs::Reading::nothing_read))]
-pub fn read_input(bytes: &[u8], boxes: &mut InputBoxes) -> Option<InputHead>
-    ensures few { IfSome result (λ said. said.placed + said.free ≤ 1024) }
-    ensures read { input_read result boxes.new.placed boxes.new.free ≡ input_of bytes.now boxes.old.placed boxes.old.free }
-{
-    if !is_input(bytes) {
-        return None;
-    }
-    let said = head(bytes);
-    boxes.read(bytes, said);
-    Some(said)
 }

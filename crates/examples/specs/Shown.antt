@@ -18,7 +18,7 @@ use Rattle.cells.specs.Whole.{volumes}
 use Rattle.try_place.specs.declared.choice.Ranked.{Ranked}
 use Rattle.try_place.specs.Splits.{six_splits}
 use Rattle.try_place.specs.Choice.{chosen, ranks_of, best_of, best_from, later_of, better_of, zero_ranked}
-use Rattle.try_place.specs.Try.{span_ok, fit_checks, fit_of, try_checks, try_answer, try_of, number_of}
+use Rattle.try_place.specs.Try.{span_ok, fit_checks, fit_of, range_checks, try_checks, try_answer, try_of, number_of}
 use Rattle.packing_rules.specs.Appended.{larger, kept_one, kept, appended_of}
 use Rattle.words.specs.Words.{joined}
 use Rattle.sections.specs.Sections.{sections}
@@ -68,7 +68,7 @@ unfolding sum_to
 tied t = sum_to 6 (λ k. as_good t (get_or (ranks_of t) k zero_ranked))
 
 unfoldable pub try_shown : RectToInsert → BinSection → TryShown
-unfolding tied side_ok span_ok in_order fit_checks fit_of try_checks try_answer six_splits chosen ranks_of best_of best_from later_of better_of
+unfolding tied side_ok span_ok in_order fit_checks range_checks try_checks try_answer six_splits chosen ranks_of best_of best_from later_of better_of
     appended_of larger kept_one kept insert_by insert_all
 try_shown r s =
     let t = try_of s r in

@@ -43,13 +43,13 @@ pub fn group_volume(rects: &[u32], n: usize, lead: usize) -> u64
 }
 
 // "Inside a group, table order": `out` has the indices of the group from now on, and no others.
-pub fn members_of(
+pub fn members_of<const CAP: usize>(
     rects: &[u32],
     n: usize,
     lead: usize,
-    out: &mut ArrayVec<usize, { RectToPlace::MOST }>,
+    out: &mut ArrayVec<usize, CAP>,
 )
-    requires { HasRects rects.now n × (lead < n) × (n ≤ RectToPlace.MOST) }
+    requires { HasRects rects.now n × (lead < n) × (n ≤ CAP) }
     ensures { out.new.items ≡ members n (rect_at rects.now) lead }
 {
     out.clear();

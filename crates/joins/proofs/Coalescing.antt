@@ -35,26 +35,35 @@ use Rattle.target_bin.specs.Store.{part_at, part_range, free_at, part_of}
 use Rattle.target_bin.specs.Leaning.{Known}
 use Rattle.target_bin.proofs.Knowing.{known_sound}
 use Rattle.target_bin.proofs.Parts.{part_lent}
+use Rattle.target_bin.proofs.Passing.{Sound}
 use Rattle.target_bin.specs.Checks.{known_checks}
 use Rattle.target_bin.specs.Outcome.{Outcome, outcome, with_common}
 use Rattle.target_bin.proofs.Jobs as job
+use Rattle.joins.specs.Leaning.{Bounded}
 use Rattle.joins.specs.Join.{share_checks, join_checks, joined_in, join_done, join_outcome, join_common, join_of}
 
 -- past checks 1 to 3 no end is above the largest word: each section lies inside its chamber
+pub bounded : (chambers store : List ℕ) → Sound chambers store → Bounded chambers store
+unfolding sections
+bounded chambers store s =
+    record {
+      shaped = s.shaped;
+      ends = λ k h.
+          each-tab (chamber_at chambers k).count (section_at (part_at store k))
+          (λ j l.
+          let i = s.all_in.inside k j h l in
+          let r = s.shapes_ok.sides k h in
+          omega arith);
+    }
+
+-- so of the chamber that has the id, whose part is lent
 pub ends :
     (chambers store : List ℕ) (id k : ℕ)
     → reply 0 k ≡ in_order (known_checks chambers store id) (λ a. a) (reply 0 (chamber_of chambers id))
     → Known chambers store id k
     → (b : TargetBin) → b ≡ chamber_at chambers k → (r : Range ℕ) → r ≡ part_range k → AllEnd (take (r.end - r.start) (drop r.start store)) b.count
-unfolding sections
 ends chambers store id k known at b read r lent =
-    let s = known_sound chambers store id (reply 0 k) known refl in
-    rw (read, part_lent r k lent store)
-    (each-tab (chamber_at chambers k).count (section_at (part_at store k))
-    (λ j l.
-    let i = s.all_in.inside k j at.low l in
-    let r = s.shapes_ok.sides k at.low in
-    omega arith))
+    rw (read, part_lent r k lent store) ((bounded chambers store (known_sound chambers store id (reply 0 k) known refl)).ends k at.low)
 
 -- ---- the part
 
@@ -116,7 +125,7 @@ module _ (chambers store : List ℕ) (id : ℕ) where
 
   pub join_unknown : (x : Refusal) → refusal_reply x ≡ in_order (known_checks chambers store id) (λ a. a) (reply 0 (chamber_of chambers id)) → with_common Nothing (outcome (refusal_reply x) chambers store) ≡ join_of chambers store id
   unfolding join_of join_outcome join_checks join_done free_at
-  join_unknown x known = job.job_unknown chambers store id row result common (refusal_reply x) known no_common (refusal_number x)
+  join_unknown x known = job.whole_unknown chambers store id row result common (refusal_reply x) known no_common (refusal_number x)
 
   module _ (k : ℕ) (known : reply 0 k ≡ in_order (known_checks chambers store id) (λ a. a) (reply 0 (chamber_of chambers id))) (at : Known chambers store id k)
       (b : TargetBin) (read : b ≡ chamber_at chambers k) (r : Range ℕ) (lent : r ≡ part_range k) where
@@ -130,12 +139,12 @@ module _ (chambers store : List ℕ) (id : ℕ) where
       pub join_refused : (x : CommonRefusal) → refusal_reply x.refusal ≡ in_order (share_checks F) (λ a. a) (reply 0 (join_all F).joins) → x.common ≡ join_common F (refusal_reply x.refusal) → with_common x.common (outcome (refusal_reply x.refusal) chambers (put_mid r.start (r.end - r.start) store ys)) ≡ join_of chambers store id
       unfolding join_of join_outcome join_checks join_done free_at
       join_refused x replied shown =
-          job.job_refused chambers store id row result common (reply 0 k) known k refl at b read r lent ys (part_of (join_all F).free) (refusal_reply x.refusal) (reply 0 (join_all F).joins) refl long replied left x.common shown
+          job.whole_refused chambers store id row result common (reply 0 k) known k refl at b read r lent ys (part_of (join_all F).free) (refusal_reply x.refusal) (reply 0 (join_all F).joins) refl long replied left x.common shown
           (refusal_number x.refusal)
 
       pub join_accepted : (j : ℕ) → reply 0 j ≡ in_order (share_checks F) (λ a. a) (reply 0 (join_all F).joins) → (after : List ℕ) → after ≡ set chambers (k * 5 + 4) (b.count - j) → with_common Nothing (outcome (reply 0 j) after (put_mid r.start (r.end - r.start) store ys)) ≡ join_of chambers store id
       unfolding join_of join_outcome join_checks join_common join_done free_at
       join_accepted j replied after counted =
           let many : b.count - j ≡ length (join_all F).free = omega (arith, few L b.count j replied) in
-          job.job_accepted chambers store id row result common (reply 0 k) known k refl at b read r lent ys (part_of (join_all F).free) (reply 0 j) (reply 0 (join_all F).joins) refl long replied left Nothing refl after
+          job.whole_accepted chambers store id row result common (reply 0 k) known k refl at b read r lent ys (part_of (join_all F).free) (reply 0 j) (reply 0 (join_all F).joins) refl long replied left Nothing refl after
           (passed L b.count j replied) (rw (counted, many))

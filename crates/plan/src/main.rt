@@ -6,7 +6,7 @@ ghost use Rattle.std.specs.Io.KnownBytes.{Appends};
 ghost use Rattle.planner.specs.Plan.{plan_of};
 
 use plan_list::PlanList;
-use planner::write_plan;
+use planner::print_plan;
 use reading::read_full;
 use std::io;
 use std::io::{Read, Write};
@@ -24,5 +24,5 @@ fn run<R: Read, W: Write>(input: &mut R, output: &mut W) -> io::Result<()>
 {
     let mut bytes = [0u8; MOST_READ];
     let n = read_full(input, &mut bytes)?;
-    write_plan(&bytes[..n], output)
+    print_plan(&bytes[..n], output)
 }

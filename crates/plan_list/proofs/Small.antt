@@ -1,5 +1,5 @@
 -- What is read is small: at most 63 coils, and each line's number, each coil's id and each slip's word is below 2 ^ 32.
-use Rattle.std.proofs.Common.{Bool, true, false, Option, Some, None, ◌≡◌, ℕ, zero, suc, ◌+◌, ◌*◌, ◌-◌, ◌^◌, ◌<◌, ◌≤◌, List, [], ◌∷◌, ◌++◌, length, cond, ltb, eqb, not, ◌&&◌, Result, Ok, Err, arith}
+use Rattle.std.proofs.Common.{Bool, true, false, Option, Some, None, ◌≡◌, ℕ, ◌+◌, ◌*◌, ◌-◌, ◌^◌, ◌<◌, ◌≤◌, List, [], ◌∷◌, ◌++◌, length, cond, ltb, eqb, not, ◌&&◌, Result, Ok, Err, arith}
 use Rattle.std.specs.Prelude.{codes, option_and_then, ok_or, slice_get}
 use Rattle.std.specs.Result.{result_map_both}
 use Rattle.std.specs.Str.{bytes_eq}
@@ -9,7 +9,6 @@ use lib.ListN.{take, length-append, length-take}
 use mathlib.Core.Path.{refl}
 use Rattle.std.proofs.lemmas.List.Sums.{count_by-le-length}
 use Rattle.lists.specs.Sort.{Each, none, also}
-use Rattle.target_bin.specs.declared.chamber.TargetBin.{TargetBin}
 use Rattle.grouped_rects_to_place.specs.declared.rect_to_place.RectToPlace.{RectToPlace}
 use Rattle.plan_list.specs.declared.slip.Slip.{Slip}
 use Rattle.plan_list.specs.declared.slip.Slip.TheVariants.{Neither, ChamberWords, CoilWords, NoNumber, ManyChambers, ManyCoils, TooLong, NoGroup}
@@ -18,10 +17,11 @@ use Rattle.plan_list.specs.declared.line_said.Said.{Said}
 use Rattle.plan_list.specs.declared.line_said.Said.TheVariants.{Nothing, Chamber, Coil}
 use Rattle.plan_list.specs.declared.list.OnLine.{OnLine}
 use Rattle.plan_list.specs.declared.list.PlanList.{PlanList}
+use Rattle.plan_list.specs.declared.list.Slipped.{Slipped}
 use Rattle.plan_list.specs.Number.{is_digit, with_digit, said_after, said}
-use Rattle.plan_list.specs.Said.{number_at, group_said, group_at, chamber_from, coil_from, chamber_said, coil_said, line_said, ◌>>=◌}
+use Rattle.plan_list.specs.Said.{number_at, group_said, group_at, coil_from, chamber_said, coil_said, line_said, ◌>>=◌}
 use Rattle.plan_list.specs.Words.{is_newline, lines_of, uncommented, words_of}
-use Rattle.plan_list.specs.List.{on_line, slip_at, plan_list, added, add_line, add_lines, line_at, read_of}
+use Rattle.plan_list.specs.List.{on_line, slip_at, slipped, next_line, added, slipped_in, add_line, add_lines, line_at, no_lines, read_of}
 use Rattle.plan_list.proofs.Lines.{lines_few}
 
 abbrev Small : ℕ → Type 0
@@ -53,6 +53,10 @@ pub record SmallList (l : PlanList) : Type 0 where
 pub record SmallSlipAt (at : SlipAt) : Type 0 where
   pub line : at.line < 2 ^ 32
   pub slip : SmallSlip at.slip
+
+pub record SmallSlipped (s : Slipped) : Type 0 where
+  pub list : SmallList s.list
+  pub at : SmallSlipAt s.at
 
 -- ---- what holds of an answer that is there, and of either answer
 
@@ -168,35 +172,49 @@ each_push : {A : Type 0} {P : A → Type 0} {xs : List A} (x : A) → Each P xs 
 each_push x none p = also p none
 each_push x (also q qs) p = also q (each_push x qs p)
 
-added_small : (line : ℕ) (l : PlanList) → line < 2 ^ 32 → SmallList l → (s : Said) → SmallSaid (length l.coils.items) s → SmallList (added line l s)
-added_small line l h m Nothing p = m
-added_small line l h m (Chamber b) p = record { chambers = each_push (on_line line b) m.chambers h; coils = m.coils; few = m.few }
-added_small line l h m (Coil c) p =
+-- the list with what a line says, and that one line more was looked at
+abbrev SmallNext : PlanList → PlanList → Type 0
+SmallNext l l' = SmallList l' × (l'.lines ≡ l.lines + 1)
+
+module _ (l : PlanList) (h : l.lines + 1 < 2 ^ 32) (m : SmallList l) where
+  next_small : SmallList (next_line l)
+  next_small = record { chambers = m.chambers; coils = m.coils; few = m.few }
+
+  added_small : (s : Said) → SmallSaid (length l.coils.items) s → SmallNext l (added (next_line l) s)
+  added_small Nothing p = (next_small, refl)
+  added_small (Chamber b) p = (record { chambers = each_push (on_line (l.lines + 1) b) m.chambers h; coils = m.coils; few = m.few }, refl)
+  added_small (Coil c) p = (
     record {
       chambers = m.chambers;
-      coils = each_push (on_line line c) m.coils (record { id = p.0; line = h });
-      few = omega (arith, length-append l.coils.items (on_line line c ∷ []), p.1);
-    }
+      coils = each_push (on_line (l.lines + 1) c) m.coils (record { id = p.0; line = h });
+      few = omega (arith, length-append l.coils.items (on_line (l.lines + 1) c ∷ []), p.1);
+    },
+    refl,
+  )
 
-lines_small : (line : ℕ) (texts : List (List ℕ)) (l : PlanList) → line + length texts ≤ 2 ^ 32 → SmallList l → Has SmallList SmallSlipAt (add_lines line texts l)
+  slipped_small : (slip : Slip) → SmallSlip slip → SmallSlipped (slipped_in (next_line l) slip)
+  slipped_small slip s = record { list = next_small; at = record { line = h; slip = s } }
+
+lines_small : (texts : List (List ℕ)) (l : PlanList) → l.lines + length texts < 2 ^ 32 → SmallList l → Has SmallList SmallSlipped (add_lines texts l)
 unfolding add_lines
-lines_small line [] l h m = m
-lines_small line (text ∷ texts) l h m =
-    then_has SmallList SmallList SmallSlipAt (add_line line text l) (add_lines (line + 1) texts)
-    (map_has (SmallSaid (length l.coils.items)) SmallList SmallSlip SmallSlipAt (added line l) (slip_at line) _
+lines_small [] l h m = m
+lines_small (text ∷ texts) l h m =
+    then_has (SmallNext l) SmallList SmallSlipped (add_line text l) (add_lines texts)
+    (map_has (SmallSaid (length l.coils.items)) (SmallNext l) SmallSlip SmallSlipped (added (next_line l)) (slipped_in (next_line l)) _
     (line_small (words_of (uncommented text)) (length l.chambers.items) (length l.coils.items) m.few)
-    (added_small line l (omega arith) m) (λ e s. record { line = omega arith; slip = s }))
-    (λ l' m'. lines_small (line + 1) texts l' (omega arith) m')
+    (added_small l (omega arith) m) (slipped_small l (omega arith) m))
+    (λ l' n. lines_small texts l' (omega (arith, n.1)) n.0)
+
+none_small : SmallList no_lines
+none_small = record { chambers = none; coils = none; few = omega arith }
 
 slip_line_small : (text : List ℕ) → line_at text 65536 < 2 ^ 32
 slip_line_small text = omega (arith, count_by-le-length is_newline (take 65536 text), length-take 65536 text)
 
-pub read_small : (text : List ℕ) → Has SmallList SmallSlipAt (read_of text)
+pub read_small : (text : List ℕ) → Has SmallList SmallSlipped (read_of text)
 unfolding read_of
 read_small text = go (dec_lt 65536 (length text))
   where
-    go : Dec (65536 < length text) → Has SmallList SmallSlipAt (cond (ltb 65536 (length text)) (Err (slip_at (line_at text 65536) TooLong)) (add_lines 1 (lines_of text) (plan_list [] [])))
-    go (yes l) = rw (lt-ltb 65536 (length text) l) (record { line = slip_line_small text; slip = omega arith })
-    go (no l) =
-        rw (le-ltb 65536 (length text) (omega arith))
-        (lines_small 1 (lines_of text) (plan_list [] []) (omega (arith, lines_few text)) (record { chambers = none; coils = none; few = omega arith }))
+    go : Dec (65536 < length text) → Has SmallList SmallSlipped (cond (ltb 65536 (length text)) (Err (slipped no_lines (slip_at (line_at text 65536) TooLong))) (add_lines (lines_of text) no_lines))
+    go (yes l) = rw (lt-ltb 65536 (length text) l) (record { list = none_small; at = record { line = slip_line_small text; slip = omega arith } })
+    go (no l) = rw (le-ltb 65536 (length text) (omega arith)) (lines_small (lines_of text) no_lines (omega (arith, lines_few text)) none_small)

@@ -1,6 +1,6 @@
 // The list read line by line.
 ghost use Rattle.std.specs.Prelude.{◌≡◌, [], ◌≤◌, length, Ok, Err, MatchResult};
-ghost use Rattle.plan_list.specs.List.{plan_list, add_line, line_at, read_of};
+ghost use Rattle.plan_list.specs.List.{plan_list, slipped, add_line, line_at, read_of};
 
 use crate::line_said::{Said, line_said};
 use crate::line_words::uncommented;
@@ -16,11 +16,19 @@ pub struct OnLine<T> {
     pub line: u32,
 }
 
-// What was read: chambers and coils, each with its line.
-#[derive(Drop)]
+// What was read: chambers and coils, each with its line, and how many lines were looked at.
+#[derive(Clone, Drop)]
 pub struct PlanList {
     pub chambers: ArrayVec<OnLine<TargetBin>, { TargetBin::MOST }>,
     pub coils: ArrayVec<OnLine<RectToPlace>, { RectToPlace::MOST }>,
+    pub lines: u32,
+}
+
+// What was read before a slip, and the slip.
+#[derive(Drop)]
+pub struct Slipped {
+    pub list: PlanList,
+    pub at: SlipAt,
 }
 
 impl PlanList {
@@ -28,18 +36,22 @@ impl PlanList {
     pub const MOST: usize = 65536;
 
     fn new() -> PlanList
-        ensures { result ≡ plan_list [] [] }
+        ensures { result ≡ plan_list [] [] 0 }
     {
         PlanList {
             chambers: ArrayVec::new(),
             coils: ArrayVec::new(),
+            lines: 0,
         }
     }
 
-    // One line more: what it says is added.
-    fn add_line(&mut self, line: u32, text: &[u8]) -> Result<(), SlipAt>
-        ensures { MatchResult result (λ _. add_line line text.now self.old ≡ Ok self.new) (λ slip. add_line line text.now self.old ≡ Err slip) }
+    // One line more is looked at, and what it says is added.
+    fn add_line(&mut self, text: &[u8]) -> Result<(), SlipAt>
+        requires { self.old.lines ≤ 65536 }
+        ensures { MatchResult result (λ _. add_line text.now self.old ≡ Ok self.new) (λ at. add_line text.now self.old ≡ Err (slipped self.new at)) }
     {
+        self.lines += 1;
+        let line = self.lines;
         let said = line_said(uncommented(text), self.chambers.len(), self.coils.len());
         match said.map_err(|slip| SlipAt { line, slip })? {
             Said::Nothing => {}
@@ -58,22 +70,25 @@ fn line_at(text: &[u8], n: usize) -> u32
     text[..n].iter().filter(|b| **b == b'\n').count() as u32 + 1
 }
 
-// The list that a text is, or the first slip in it. What is longer than 65,536 bytes is not read.
+// The list that a text is; or the first slip in it, and what was read before. Of what is longer than 65,536 bytes nothing is read.
 #[tactic(auto, unfolding(crate::specs::List::read_of))]
-pub fn read_list(text: &[u8]) -> Result<PlanList, SlipAt>
+pub fn read_list(text: &[u8]) -> Result<PlanList, Slipped>
     ensures { result ≡ read_of text.now }
 {
+    let mut list = PlanList::new();
     if PlanList::MOST < text.len() {
-        return Err(SlipAt {
-            line: line_at(text, PlanList::MOST),
-            slip: Slip::TooLong,
+        return Err(Slipped {
+            list,
+            at: SlipAt {
+                line: line_at(text, PlanList::MOST),
+                slip: Slip::TooLong,
+            },
         });
     }
-    let mut list = PlanList::new();
-    let mut line = 0;
     for text in text.split(|b| *b == b'\n') {
-        line += 1;
-        list.add_line(line, text)?;
+        if let Err(at) = list.add_line(text) {
+            return Err(Slipped { list, at });
+        }
     }
     Ok(list)
 }

@@ -24,7 +24,7 @@ rect id whd = record { id = id; group = 0; whd = whd }
 list : PlanList
 list =
     plan_list (on_line 2 (bin 3 (sides 200 100 100) 0) ∷ [])
-    (on_line 3 (rect 7 (sides 10 10 10)) ∷ on_line 5 (rect 12 (sides 20 20 20)) ∷ [])
+    (on_line 3 (rect 7 (sides 10 10 10)) ∷ on_line 5 (rect 12 (sides 20 20 20)) ∷ []) 5
 
 first : Placement
 first = placement 1 3 100 0 65535

@@ -6,7 +6,6 @@ use native.Mathlib.Omega.{arith}
 use lib.Dec.{eqb}
 use lib.ListN.{length, length-append}
 use Rattle.std.specs.Prelude.{codes, flat_map, zip, count_by}
-use Rattle.std.proofs.lemmas.Fmt.{length-decimal-le}
 use Rattle.std.proofs.lemmas.List.Sums.{count_by-le-length}
 use Rattle.lists.specs.Sort.{Each, none, also}
 use Rattle.replies.specs.declared.reply.Reply.{Reply}
@@ -19,14 +18,10 @@ use Rattle.plan_list.specs.declared.slip.Slip.TheVariants.{Neither, ChamberWords
 use Rattle.plan_list.specs.declared.slip.SlipAt.{SlipAt}
 use Rattle.plan_list.proofs.Small.{SmallSlip, SmallLine, SmallCoil, SmallList, SmallSlipAt}
 use Rattle.text.specs.Decimal.{decimal, item}
-use Rattle.text.proofs.Displaying.{decimal_std}
+use Rattle.text.proofs.Decimals.{decimal_most}
 use Rattle.plan_report.specs.Texts.{line_tag, nothing_placed, slip_text, slip_report, refusal_text, refusal, refused_line, place_text, goes_to, coil_text, coil_with, coil_texts, names_chamber, line_at, is_placed, placed_count, summary, pack_report}
 
 -- ---- what the texts are made of
-
--- ten digits hold a 32-bit number
-decimal_most : (n : ℕ) → n < 2 ^ 32 → length (decimal n) ≤ 10
-decimal_most n h = rw (← decimal_std n (omega arith)) (length-decimal-le 10 n (omega arith) (omega arith) (omega arith))
 
 item_most : (text : List ℕ) (n : ℕ) → n < 2 ^ 32 → length (item text n) ≤ length text + 10
 item_most text n h = omega (arith, length-append text (decimal n), decimal_most n h)
@@ -62,7 +57,7 @@ pub slip_short : (at : SlipAt) → SmallSlipAt at → length (slip_report at) �
 unfolding nothing_placed slip_report
 slip_short at s = simp (length-append) (omega (arith, line_tag_short at.line s.line, slip_text_short at.slip s.slip))
 
-refusal_text_short : (n : ℕ) → length (refusal_text n) ≤ 107
+pub refusal_text_short : (n : ℕ) → length (refusal_text n) ≤ 107
 unfolding refusal_text
 refusal_text_short n =
     either_most (eqb n 2) _ _ 107 (omega arith)
@@ -105,7 +100,7 @@ zip_short none qs = none
 zip_short (also p ps) none = none
 zip_short (also {x} p ps) (also {x = y} q qs) = also (coil_short x.item.id y p.id q) (zip_short ps qs)
 
-zip_most : {A B : Type 0} (xs : List A) (ys : List B) → length (zip xs ys) ≤ length xs
+pub zip_most : {A B : Type 0} (xs : List A) (ys : List B) → length (zip xs ys) ≤ length xs
 zip_most [] ys = omega arith
 zip_most (x ∷ xs) [] = omega arith
 zip_most (x ∷ xs) (y ∷ ys) = omega (arith, zip_most xs ys)

@@ -1,8 +1,11 @@
 // What several texts have in common.
-ghost use Rattle.std.specs.Prelude.{Some};
+ghost use Rattle.std.specs.Prelude.{◌≡◌, ◌+◌, ◌≤◌, ◌++◌};
+ghost use Rattle.arrayvec.specs.ArrayString.{array_string_len};
 ghost use Rattle.plan_report.specs.Texts.{line_tag};
 
-use std::fmt;
+use crate::report::Report;
+use arrayvec::ArrayString;
+use text::put_item;
 
 pub const NOTHING_PLACED: &str = "nothing is placed\n";
 
@@ -10,12 +13,16 @@ pub const NOTHING_PLACED: &str = "nothing is placed\n";
 #[derive(Clone, Copy)]
 pub struct LineTag(pub u32);
 
-impl fmt::Display for LineTag {
-    ghost output = { λ tag. Some (line_tag tag.0) };
-
-    #[tactic(auto, using(text::proofs::Displaying::decimal_std), unfolding(crate::specs::Texts::line_tag))]
-    fn fmt<W: fmt::Write>(&self, f: &mut fmt::Formatter<W>) -> fmt::Result {
+impl LineTag {
+    // At most 17 bytes.
+    #[tactic(auto, unfolding(crate::specs::Texts::line_tag))]
+    pub fn put(&self, out: &mut ArrayString<{ Report::MOST }>)
+        requires { array_string_len out.old + 17 ≤ 8192 }
+        ensures bytes { out.new.bytes ≡ out.old.bytes ++ line_tag self.now.0 }
+        ensures short { array_string_len out.new ≤ array_string_len out.old + 17 }
+    {
         let LineTag(line) = *self;
-        write!(f, "line {line}: ")
+        put_item(out, "line ", line);
+        out.push_str(": ");
     }
 }

@@ -1,12 +1,15 @@
 // A refusal: its number, what that means, and the line of the list that it points at.
-ghost use Rattle.std.specs.Prelude.{◌≡◌, Some};
+ghost use Rattle.std.specs.Prelude.{◌≡◌, ◌+◌, ◌≤◌, ◌++◌};
+ghost use Rattle.arrayvec.specs.ArrayString.{array_string_len};
 ghost use Rattle.replies.specs.Replies.{refusal_reply};
 ghost use Rattle.plan_report.specs.Texts.{refusal_text, refusal, names_chamber, line_at, refused_line};
 
 use crate::phrases::LineTag;
+use crate::report::Report;
+use arrayvec::ArrayString;
 use plan_list::{OnLine, PlanList};
 use replies::{Refusal, Reply};
-use std::fmt;
+use text::put_item;
 
 // What a refusal means.
 #[tactic(auto, unfolding(crate::specs::Texts::refusal_text))]
@@ -31,18 +34,19 @@ pub struct Refused {
     pub refusal: Refusal,
 }
 
-impl fmt::Display for Refused {
-    ghost output = { λ refused. Some (refusal refused.line (refusal_reply refused.refusal).number) };
-
-    #[tactic(auto, using(text::proofs::Displaying::decimal_std), unfolding(crate::specs::Texts::refusal))]
-    fn fmt<W: fmt::Write>(&self, f: &mut fmt::Formatter<W>) -> fmt::Result {
+impl Refused {
+    // At most 149 bytes.
+    #[tactic(auto, using(crate::proofs::Short::refusal_text_short), unfolding(crate::specs::Texts::refusal))]
+    pub fn put(&self, out: &mut ArrayString<{ Report::MOST }>)
+        requires { array_string_len out.old + 149 ≤ 8192 }
+        ensures bytes { out.new.bytes ≡ out.old.bytes ++ refusal self.now.line (refusal_reply self.now.refusal).number }
+        ensures short { array_string_len out.new ≤ array_string_len out.old + 149 }
+    {
         let number = Reply::from(self.refusal).number;
-        write!(
-            f,
-            "{}refused with {number}: {}",
-            LineTag(self.line),
-            meaning(self.refusal)
-        )
+        LineTag(self.line).put(out);
+        put_item(out, "refused with ", number);
+        out.push_str(": ");
+        out.push_str(meaning(self.refusal));
     }
 }
 

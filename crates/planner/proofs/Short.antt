@@ -6,10 +6,10 @@ use Rattle.lists.proofs.Sorts.{each-tab}
 use Rattle.replies.specs.declared.refusal.Refusal.{Refusal}
 use Rattle.replies.specs.Replies.{refusal_reply, job_reply}
 use Rattle.placement.specs.Placements.{placement_at}
-use Rattle.plan_list.specs.declared.slip.SlipAt.{SlipAt}
 use Rattle.plan_list.specs.declared.list.PlanList.{PlanList}
+use Rattle.plan_list.specs.declared.list.Slipped.{Slipped}
 use Rattle.plan_list.specs.List.{read_of}
-use Rattle.plan_list.proofs.Small.{SmallList, SmallSlipAt, Has, read_small}
+use Rattle.plan_list.proofs.Small.{SmallList, SmallSlipped, Has, read_small}
 use Rattle.plan_report.proofs.Short.{SmallPlacement, slip_short, report_short}
 use Rattle.planner.specs.Packed.{packed_list}
 use Rattle.planner.specs.Plan.{pack_text, list_report, plan_of}
@@ -39,11 +39,11 @@ list_short l a s e small =
     (rw (← e) (answer_small a))
 
 module _ (text : List ℕ) where
-  pub slip_plan_short : (at : SlipAt) → read_of text ≡ Err at → length (plan_of text) ≤ 8192
+  pub slip_plan_short : (slipped : Slipped) → read_of text ≡ Err slipped → length (plan_of text) ≤ 8192
   unfolding plan_of
-  slip_plan_short at e =
-      let s : SmallSlipAt at = subst (Has SmallList SmallSlipAt) e (read_small text) in
-      rw e (omega (arith, slip_short at s))
+  slip_plan_short slipped e =
+      let s : SmallSlipped slipped = subst (Has SmallList SmallSlipped) e (read_small text) in
+      rw e (omega (arith, slip_short slipped.at s.at))
 
   pub list_plan_short :
       (l : PlanList) (a : Result (Unit {0}) Refusal)
@@ -53,5 +53,5 @@ module _ (text : List ℕ) where
       → length (plan_of text) ≤ 8192
   unfolding plan_of
   list_plan_short l a e q small =
-      let s : SmallList l = subst (Has SmallList SmallSlipAt) e (read_small text) in
+      let s : SmallList l = subst (Has SmallList SmallSlipped) e (read_small text) in
       rw e (list_short l a s q small)

@@ -3,8 +3,8 @@ use Rattle.std.specs.Prelude.{ℕ, List, length, Result, Ok, Err}
 use Rattle.lists.specs.Tab.{tab}
 use Rattle.placement.specs.Placements.{placement_at}
 use Rattle.rectangle_pack.specs.Pack.{PackOutcome}
-use Rattle.plan_list.specs.declared.slip.SlipAt.{SlipAt}
 use Rattle.plan_list.specs.declared.list.PlanList.{PlanList}
+use Rattle.plan_list.specs.declared.list.Slipped.{Slipped as SlippedList}
 use Rattle.plan_list.specs.List.{read_of}
 use Rattle.plan_report.specs.Texts.{slip_report, pack_report}
 use Rattle.replies.specs.Replies.{job_reply}
@@ -21,9 +21,9 @@ unfoldable pub list_report : PlanList → List ℕ
 list_report l = pack_text l (packed_list l)
 
 -- of what was read: of a list with a slip of the pen nothing is packed
-abbrev pub read_report : Result PlanList SlipAt → List ℕ
+abbrev pub read_report : Result PlanList SlippedList → List ℕ
 read_report (Ok l) = list_report l
-read_report (Err slip) = slip_report slip
+read_report (Err slipped) = slip_report slipped.at
 
 -- what the program writes to the bytes it reads
 unfoldable pub plan_of : List ℕ → List ℕ

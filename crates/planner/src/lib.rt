@@ -6,4 +6,4 @@ mod plan;
 mod tables;
 
 pub use packed::Packed;
-pub use plan::{Planned, plan_text, write_plan};
+pub use plan::{Planned, plan_text, print_plan, write_plan};

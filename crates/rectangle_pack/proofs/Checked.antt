@@ -1,14 +1,14 @@
 -- Laws of pack's checks: which case each of them leads to, and what the tables have once all pass.
-use Prim.Native.Nat.{ℕ, ◌*◌, ◌%◌, ◌≤◌, ◌<◌}
+use Prim.Native.Nat.{ℕ, ◌+◌, ◌*◌, ◌%◌, ◌≤◌, ◌<◌}
 use mathlib.Core.Path.{◌≡◌, refl, sym, ap, ◌∙◌}
 use mathlib.Core.List.{List, []}
-use mathlib.Core.Bool.{true, not, ◌&&◌}
+use mathlib.Core.Bool.{true, false, not, ◌&&◌}
 use native.Mathlib.Omega.{arith}
-use borrow.Author.Tests.{eqb-true, leb-true, ltb-false, not-false}
+use borrow.Author.Tests.{eqb-true, leb-true, eq-eqb, ne_eqb, le-leb, lt-leb, lt-ltb, le-ltb, ltb-false, not-false}
 use lib.Dec.{eqb, leb}
 use lib.ListN.{length, get_or}
 use Rattle.lists.specs.Sort.{Each}
-use Rattle.lists.proofs.Flags.{and_first, and_second}
+use Rattle.lists.proofs.Flags.{and_first, and_second, and_no_first, and_no_second}
 use Rattle.lists.proofs.Lowests.{None}
 use Rattle.lists.proofs.Sorts.{each-tab}
 use Rattle.replies.specs.declared.reply.Reply.{Reply}
@@ -19,6 +19,7 @@ use Rattle.bin_section.specs.Inside.{Inside}
 use Rattle.sections.specs.Sections.{sections}
 use Rattle.sections.proofs.Reading.{length-sections}
 use Rattle.bin_section.proofs.Ranges.{range→small}
+use Rattle.target_bin.specs.declared.chamber.TargetBin.{TargetBin}
 use Rattle.target_bin.specs.Chambers.{chamber_at, chamber_count}
 use Rattle.target_bin.specs.Checks.{table_checks}
 use Rattle.target_bin.specs.Store.{part_at, free_at, free_of}
@@ -36,6 +37,19 @@ use Rattle.rectangle_pack.specs.Leaning.{Passed}
 -- ---- 1
 
 module _ (rects p : List ℕ) where
+  pub rect_odd : (length rects % rect_width ≡ 0 → ⊥) → false ≡ rect_lengths_ok rects p
+  unfolding rect_lengths_ok
+  rect_odd n = sym (and_no_first _ _ (ne_eqb _ _ n))
+
+  pub rect_many : 63 < rect_count rects → false ≡ rect_lengths_ok rects p
+  unfolding rect_lengths_ok
+  rect_many h =
+      sym (and_no_second (eqb (length rects % rect_width) 0) (leb (rect_count rects) 63 && eqb (length p) (rect_count rects * placement_width)) (and_no_first _ _ (lt-leb _ _ h)))
+
+  pub rect_places : length rects % rect_width ≡ 0 → rect_count rects ≤ 63 → eqb (length p) (rect_count rects * placement_width) ≡ rect_lengths_ok rects p
+  unfolding rect_lengths_ok
+  rect_places z h = sym (rw (eq-eqb _ _ z, le-leb _ _ h))
+
   pub record RectLengths : Type 0 where
     pub few : rect_count rects ≤ 63
     pub long : length rects ≡ rect_count rects * rect_width
@@ -102,3 +116,13 @@ module _ (c st rects p : List ℕ) (all : AllPass (pack_checks c st rects p)) wh
         rects_good = good_rects rects (rect_count rects) l.few (omega (arith, l.long)) no_bad;
         places_long = l.places;
       }
+
+-- 6, at one chamber
+module _ (c : List ℕ) (n k : ℕ) (b : TargetBin) (read : b ≡ chamber_at c k) where
+  pub too_little : 128 < b.count + 2 * n → no_room c n k ≡ true
+  unfolding no_room most_sections
+  too_little h = lt-ltb 128 ((chamber_at c k).count + 2 * n) (omega (arith, ap (λ (x : TargetBin). x.count) read))
+
+  pub room_left : b.count + 2 * n ≤ 128 → no_room c n k ≡ false
+  unfolding no_room most_sections
+  room_left h = le-ltb 128 ((chamber_at c k).count + 2 * n) (omega (arith, ap (λ (x : TargetBin). x.count) read))

@@ -5,3 +5,4 @@ pub mod Seating
 pub mod Serving
 pub mod Tables
 pub mod Tidying
+pub mod Turns

@@ -1,11 +1,11 @@
 -- Laws of the packing group by group: the state that the tables hold, and the groups that are left.
-use Prim.Native.Nat.{ℕ, ◌+◌, ◌*◌, ◌/◌, ◌≤◌, ◌<◌}
+use Prim.Native.Nat.{ℕ, ◌+◌, ◌*◌, ◌-◌, ◌/◌, ◌≤◌, ◌<◌}
 use mathlib.Core.Path.{◌≡◌, refl, sym, ap, ◌∙◌}
 use mathlib.Core.List.{List, [], ◌∷◌, map}
 use mathlib.Core.Bool.{true}
 use native.Mathlib.Numerals.{add-one}
 use native.Mathlib.Omega.{arith}
-use lib.ListN.{length, get_or, drop, length-map, get_or-map, drop_of_length-le}
+use lib.ListN.{length, get_or, take, drop, length-map, get_or-map, drop_of_length-le}
 use lib.Seq.{drop-cons, ext_get_or}
 use Rattle.std.proofs.Common.{Some}
 use Rattle.std.proofs.lemmas.List.{get_or_default}
@@ -25,7 +25,7 @@ use Rattle.target_bin.proofs.Parts.{getd_free_of, store_encoded}
 use Rattle.target_bin.proofs.Tables.{table_encoded}
 use Rattle.grouped_rects_to_place.specs.declared.rect_to_place.RectToPlace.{RectToPlace}
 use Rattle.grouped_rects_to_place.specs.declared.sorting.Lead.{Lead}
-use Rattle.grouped_rects_to_place.specs.Leaning.{lead_with}
+use Rattle.grouped_rects_to_place.specs.Leaning.{Listed, lead_with}
 use Rattle.grouped_rects_to_place.specs.Rect.{rect_count}
 use Rattle.grouped_rects_to_place.specs.Groups.{same_group, is_lead, members, earlier, group_order, groups_of}
 use Rattle.grouped_rects_to_place.proofs.Sizes.{groups_total, group_of}
@@ -99,6 +99,10 @@ pub lead_small :
     → (d : Lead)
     → (get_or leads i d).first < n
 lead_small n r leads e i h d = let at = lead_here n r leads e i h d in lead_below n r i at.0 _ at.1
+
+-- the part of an array that has a list
+pub listed_part : (n m : ℕ) (list out : List ℕ) → Listed n list out m → take (m - 0) out ≡ list
+listed_part n m list out l = let e : m - 0 ≡ m = omega arith in ap (λ (j : ℕ). take j out) e ∙ l.front
 
 -- a group, as the code has it
 module _ (n : ℕ) (r : ℕ → RectToPlace) (lead : ℕ) (group : List ℕ) (is : group ≡ members n r lead) where

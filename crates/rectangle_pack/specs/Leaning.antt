@@ -1,5 +1,5 @@
 -- What functions below the jobs lean on and leave. No job's contract cites it, and a reader of the rules needs none of it.
-use Rattle.std.specs.Prelude.{ℕ, ◌*◌, ◌≤◌, ◌<◌, ◌≡◌, List, false, length, get_or, set, Option, Some, None}
+use Rattle.std.specs.Prelude.{ℕ, ◌*◌, ◌≤◌, ◌<◌, ◌≡◌, List, false, cond, ltb, length, get_or, set, Option, Some, None}
 use Rattle.bin_section.specs.declared.rect_to_insert.RectToInsert.{RectToInsert}
 use Rattle.bin_section.specs.declared.section.BinSection.{BinSection}
 use Rattle.bin_section.specs.Leaning.{Small}
@@ -34,6 +34,10 @@ pub record SmallChambers (chambers : List ℕ) : Type 0 where
 -- what the chamber at i is sorted by
 abbrev pub turn_of : List ℕ → ℕ → Turn
 turn_of chambers i = record { volume = volume_of (chamber_at chambers i).whd; id = (chamber_at chambers i).id; index = i }
+
+-- the same, and zeros past the last
+unfoldable pub turn_at : List ℕ → ℕ → Turn
+turn_at chambers i = cond (ltb i (chamber_count chambers)) (turn_of chambers i) (record { volume = 0; id = 0; index = i })
 
 -- ---- one group
 

@@ -65,7 +65,7 @@ fn pack_groups(
         chambers.new store.new placements.new }
 {
     let n = rects.len() / RectToPlace::WORDS;
-    let mut group = ArrayVec::new();
+    let mut group: ArrayVec<usize, { RectToPlace::MOST }> = ArrayVec::new();
     let mut copy = [0u32; TargetBin::STORE];
     let mut locations = [0u32; LOCATION_WORDS];
     for lead in leads {
@@ -100,9 +100,10 @@ fn pack_checked(
 {
     clear_placements(placements);
     let n = rects.len() / RectToPlace::WORDS;
-    let order = sort_chambers(chambers);
+    let mut order = [0usize; TargetBin::MOST];
+    let count = sort_chambers(chambers, &mut order);
     let leads = sort_groups(rects, n);
-    let answer = pack_groups(chambers, store, rects, placements, &order, &leads);
+    let answer = pack_groups(chambers, store, rects, placements, &order[0..count], &leads);
     clear_tails(chambers, store);
     answer
 }

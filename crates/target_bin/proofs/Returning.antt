@@ -48,7 +48,7 @@ module _ (chambers store : List ℕ) (id : ℕ) (box : BinSection) where
 
   pub return_unknown : (x : Refusal) → refusal_reply x ≡ in_order (known_checks chambers store id) (λ a. a) (reply 0 (chamber_of chambers id)) → with_common None (outcome (refusal_reply x) chambers store) ≡ return_of chambers store id box
   unfolding return_of return_outcome return_checks returned
-  return_unknown x known = job.job_unknown chambers store id row result common (refusal_reply x) known no_common (refusal_number x)
+  return_unknown x known = job.whole_unknown chambers store id row result common (refusal_reply x) known no_common (refusal_number x)
 
   module _ (k : ℕ) (known : reply 0 k ≡ in_order (known_checks chambers store id) (λ a. a) (reply 0 (chamber_of chambers id))) (at : Known chambers store id k)
       (b : TargetBin) (read : b ≡ chamber_at chambers k) (r : Range ℕ) (lent : r ≡ part_range k) where
@@ -62,7 +62,7 @@ module _ (chambers store : List ℕ) (id : ℕ) (box : BinSection) where
       pub return_refused : (x : CommonRefusal) → refusal_reply x.refusal ≡ in_order (push_checks b L box) (λ a. a) (reply 0 b.count) → x.common ≡ return_common L box (refusal_reply x.refusal) → with_common x.common (outcome (refusal_reply x.refusal) chambers (put_mid r.start (r.end - r.start) store ys)) ≡ return_of chambers store id box
       unfolding return_of return_outcome return_checks returned
       return_refused x replied shown =
-          job.job_refused chambers store id row result common (reply 0 k) known k refl at b read r lent ys P (refusal_reply x.refusal) (reply 0 b.count) refl long replied left x.common shown
+          job.whole_refused chambers store id row result common (reply 0 k) known k refl at b read r lent ys P (refusal_reply x.refusal) (reply 0 b.count) refl long replied left x.common shown
           (refusal_number x.refusal)
 
       module _ (i : ℕ) (replied : reply 0 i ≡ in_order (push_checks b L box) (λ a. a) (reply 0 b.count)) where
@@ -78,5 +78,5 @@ module _ (chambers store : List ℕ) (id : ℕ) (box : BinSection) where
         pub return_accepted : (after : List ℕ) → after ≡ set chambers (k * 5 + 4) (b.count + 1) → with_common None (outcome (reply 0 i) after (put_mid r.start (r.end - r.start) store ys)) ≡ return_of chambers store id box
         unfolding return_of return_outcome return_checks return_common returned part_at
         return_accepted after counted =
-            job.job_accepted chambers store id row result common (reply 0 k) known k refl at b read r lent ys P (reply 0 i) (reply 0 b.count) refl long replied left None refl after passed
+            job.whole_accepted chambers store id row result common (reply 0 k) known k refl at b read r lent ys P (reply 0 i) (reply 0 b.count) refl long replied left None refl after passed
             (rw (counted, part_lent r k lent store, put_in_part store (k * 768) 768 (omega (arith, at.part_in)) (b.count * 6) (section_words box) (omega (arith, room))))

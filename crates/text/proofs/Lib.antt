@@ -1,2 +1,4 @@
+pub mod Decimals
 pub mod Displaying
 pub mod Numerals
+pub mod Writing

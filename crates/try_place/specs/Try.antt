@@ -1,5 +1,5 @@
 -- Try one placement: its checks in their order, and what it answers.
-use Rattle.std.specs.Prelude.{ℕ, ◌+◌, ◌≤◌, List, [], ◌∷◌, Bool, ◌&&◌, not, ltb, leb, get_or, Result, Ok, Err}
+use Rattle.std.specs.Prelude.{ℕ, ◌+◌, ◌≤◌, List, [], ◌∷◌, ◌++◌, map, Bool, ◌&&◌, not, ltb, leb, get_or, Result, Ok, Err}
 use Rattle.try_place.specs.declared.packed_location.PackedLocation.{PackedLocation}
 use Rattle.bin_section.specs.declared.rect_to_insert.RectToInsert.{RectToInsert}
 use Rattle.bin_section.specs.declared.section.BinSection.{BinSection}
@@ -61,12 +61,20 @@ refused_fit (Err e) = Err (refusal_of e)
 
 -- ---- the try
 
--- "Try: 3 (..), 4, 12, 13, 14": the first two, and past them the fit's
+-- 3 and 4: the section alone, and the rectangle alone
+unfoldable pub range_checks : BinSection → RectToInsert → List (Check Refusal)
+range_checks s r = once (BadSection 0) (not (section_ok s)) ∷ once (BadRectangle 0) (not (sides_ok r.whd)) ∷ []
+
+-- a check of the fit as one of the try
+abbrev pub refused_check : Check BinSectionError → Check Refusal
+refused_check c = once (refusal_of c.answer) c.fires
+
+-- "Try: 3 (..), 4, 12, 13, 14."
 unfoldable pub try_checks : BinSection → RectToInsert → List (Check Refusal)
-try_checks s r = once (BadSection 0) (not (section_ok s)) ∷ once (BadRectangle 0) (not (sides_ok r.whd)) ∷ []
+try_checks s r = range_checks s r ++ map refused_check (fit_checks s r)
 
 unfoldable pub try_answer : BinSection → RectToInsert → Result PackedLocation Refusal
-try_answer s r = in_order (try_checks s r) (λ e. Err e) (refused_fit (fit_of s r))
+try_answer s r = in_order (try_checks s r) (λ e. Err e) (Ok (location_in s r))
 
 -- "the chosen three in the order right, above, behind"
 abbrev pub chosen_three : BinSection → RectToInsert → List BinSection
@@ -79,6 +87,13 @@ sections_of s r (Err e) = zero_section ∷ zero_section ∷ zero_section ∷ []
 
 abbrev pub try_of : BinSection → RectToInsert → Tried
 try_of s r = record { answer = try_answer s r; sections = sections_of s r (try_answer s r) }
+
+-- what each outcome is; that a try is the first check's refusal, or else what is placed, is `try_row` (proofs/Refusing.antt)
+abbrev pub refused_of : Refusal → Tried
+refused_of e = record { answer = Err e; sections = zero_section ∷ zero_section ∷ zero_section ∷ [] }
+
+abbrev pub placed_of : BinSection → RectToInsert → Tried
+placed_of s r = record { answer = Ok (location_in s r); sections = chosen_three s r }
 
 -- the reply of each answer, and its number; the detail of a try is 0 (`no_detail`, proofs/Refusing.antt)
 abbrev pub reply_of : Result PackedLocation Refusal → Reply

@@ -3,7 +3,8 @@
 
 ghost use Rattle.std.specs.Prelude.{◌≡◌};
 ghost use Rattle.try_place.specs.Leaning.{Fitting};
-ghost use Rattle.try_place.specs.Try.{span_ok, section_ok, chosen_three, try_answer, try_of, reply_of, location_of};
+ghost use Rattle.replies.specs.Replies.{reply};
+ghost use Rattle.try_place.specs.Try.{span_ok, section_ok, chosen_three, try_answer, try_of, number_of, location_of};
 
 mod choice;
 mod fitting;
@@ -29,12 +30,13 @@ impl Tried {
     // The words of a location and three sections.
     pub const WORDS: usize = PackedLocation::WORDS + 3 * BinSection::WORDS;
 
+    // "A detail that isn't named is 0." No try answers a refusal that has another (`no_detail`, proofs/Refusing.antt).
     pub fn reply(&self) -> Reply
-        ensures { result ≡ reply_of self.now.answer }
+        ensures { result ≡ reply (number_of self.now.answer) 0 }
     {
         match self.answer {
             Ok(_) => Reply::new(Reply::DONE, 0),
-            Err(refusal) => Reply::from(refusal),
+            Err(refusal) => Reply::new(Reply::from(refusal).number, 0),
         }
     }
 
@@ -73,7 +75,7 @@ fn span_ok(origin: u32, side: u32) -> bool
 }
 
 // The checks 3 and 4, then the fit.
-#[tactic(auto, unfolding(crate::specs::Try::try_answer, crate::specs::Try::try_checks, replies::specs::Replies::in_order))]
+#[tactic(auto, using(crate::proofs::Refusing::try_fit), unfolding(crate::specs::Try::range_checks, replies::specs::Replies::in_order))]
 fn answer_to(section: BinSection, rectangle: RectToInsert) -> Result<PackedLocation, Refusal>
     ensures { result ≡ try_answer section rectangle }
 {

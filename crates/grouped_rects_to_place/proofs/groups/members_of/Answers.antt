@@ -8,13 +8,13 @@ use Rattle.grouped_rects_to_place.proofs.groups.members_of.Goals.{then-same_grou
 
 pub loop-j-init : goal.loop-j-init
 unfolding picked
-loop-j-init c = c.clear.ensures
+loop-j-init g c = c.clear.ensures
 
 pub push-requires : goal.push-requires
-push-requires c = omega (arith, ap length c.loop-j.invariant, length_pick c.loop-j.j)
+push-requires g c = omega (arith, ap length c.loop-j.invariant, length_pick c.loop-j.j)
 
 pub loop-j-preserved : goal.loop-j-preserved
-loop-j-preserved c =
+loop-j-preserved g c =
     elim c.if-same_group.branch [
       | then-same_group w ↦
           ap (λ v. v.items) w.out-is

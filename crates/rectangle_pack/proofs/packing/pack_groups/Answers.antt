@@ -6,7 +6,7 @@ pub loop-lead-init : goal.loop-lead-init
 loop-lead-init c = record { running = running_none _ _ _ _ _ c.requires.0; copy_long = refl; locations_long = refl }
 
 pub members_of-requires : goal.members_of-requires
-members_of-requires c = (c.requires.1.long, lead_small _ _ _ c.requires.4 _ c.loop-lead-test.true _, c.requires.1.few)
+members_of-requires c = (search rules, (c.requires.1.long, lead_small _ _ _ c.requires.4 _ c.loop-lead-test.true _, c.requires.1.few))
 
 pub pack_group-requires : goal.pack_group-requires
 pack_group-requires c =
