@@ -30,19 +30,23 @@ use Rattle.neighbours.specs.Joining.{join_all}
 use Rattle.neighbours.specs.Leaning.{AllEnd}
 use Rattle.neighbours.proofs.Steps.{all_count}
 use Rattle.target_bin.specs.declared.chamber.TargetBin.{TargetBin}
-use Rattle.target_bin.specs.Chambers.{chamber_at, chamber_of}
+use Rattle.target_bin.specs.Chambers.{chamber_at, chamber_count, chamber_of}
 use Rattle.target_bin.specs.Store.{part_at, part_range, free_at, part_of}
-use Rattle.target_bin.specs.Leaning.{Known}
+use Rattle.target_bin.specs.Leaning.{Known, Shaped}
 use Rattle.target_bin.proofs.Knowing.{known_sound}
 use Rattle.target_bin.proofs.Parts.{part_lent}
 use Rattle.target_bin.proofs.Passing.{Sound}
 use Rattle.target_bin.specs.Checks.{known_checks}
 use Rattle.target_bin.specs.Outcome.{Outcome, outcome, with_common}
 use Rattle.target_bin.proofs.Jobs as job
-use Rattle.joins.specs.Leaning.{Bounded}
 use Rattle.joins.specs.Join.{share_checks, join_checks, joined_in, join_done, join_outcome, join_common, join_of}
 
--- past checks 1 to 3 no end is above the largest word: each section lies inside its chamber
+-- what the code leans on once checks 1 to 3 have passed
+pub record Bounded (chambers store : List ℕ) : Type 0 where
+  pub shaped : Shaped chambers store
+  pub ends : (k : ℕ) → k < chamber_count chambers → AllEnd (part_at store k) (chamber_at chambers k).count
+
+-- then no end is above the largest word: each section lies inside its chamber
 pub bounded : (chambers store : List ℕ) → Sound chambers store → Bounded chambers store
 unfolding sections
 bounded chambers store s =
